@@ -11,7 +11,7 @@ use Rattle.drum_order.proofs.Lists.{contains_at, contains_from_get, one_place}
 use Rattle.drum_flow.specs.declared.refusal.Refusal.{Refusal}
 use Rattle.drum_flow.specs.declared.refusal.Refusal.TheVariants.{Memory, NotLoaded, NotInProfile, Alters, Unbounded}
 use Rattle.drum_flow.specs.declared.refusal.Refusal.TheVariants.{HasCalls, TooMany, TooLarge}
-use Rattle.drum_flow.specs.Accepted.{counts_of, product_of, told, IsFreeLink, IsAdmitted, IsGood, IsMet, IsSound}
+use Rattle.drum_flow.specs.Accepted.{counts_of, product_of, capped, IsFreeLink, IsAdmitted, IsGood, IsMet, IsSound}
 use Rattle.drum_flow.specs.Executed.{added_by, each_place, found_after, same_node, with_new_by, AreAllNodes, IsOrder}
 use Rattle.drum_flow.specs.Flow.{AreExecuted}
 use Rattle.drum_flow.specs.Hops.{Node}
@@ -143,7 +143,7 @@ module _ (loads : ℕ → Option Word) (notes : Notes) where
           unaltered = λ place ins is_executed allowed. none place (e.found.all place is_executed) ins allowed;
         }
 
-        pub too_much : (refusal : Refusal) → IsTooMuch (told (product_of executed notes.marks)) refusal
+        pub too_much : (refusal : Refusal) → IsTooMuch (capped (product_of executed notes.marks)) refusal
             → IsRefusal loads notes start refusal
         too_much (TooLarge product) wrong =
             (sound, subst (λ (n : ℕ). 4000000 < n) (sym wrong.0) wrong.1, (executed, e.found.order, wrong.0))

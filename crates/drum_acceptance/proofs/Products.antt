@@ -7,7 +7,7 @@ use Rattle.std.proofs.Math.Nat.{pow-le-pow_right, min-eq_left, min-le_left, min-
 use Rattle.std.proofs.lemmas.Bool.{cases_lt}
 use Rattle.std.proofs.lemmas.List.{drop_more, drop_all}
 use Rattle.drum_times.specs.declared.notes.mark.Mark.{Mark}
-use Rattle.drum_flow.specs.Accepted.{counts_of, told}
+use Rattle.drum_flow.specs.Accepted.{counts_of, capped}
 
 -- there is one at least
 pub counts_positive : (marks : List Mark) → 1 ≤ counts_of marks
@@ -30,86 +30,86 @@ counts_few marks few =
     omega (arith, counts_bound marks, more)
 
 -- a product below 2^127 is told as it is, and any other as 2^127
-pub told_less : (n : ℕ) → n ≤ 2 ^ 127 → told n ≡ n
+pub told_less : (n : ℕ) → n ≤ 2 ^ 127 → capped n ≡ n
 told_less n low = min-eq_left low
 
-pub told_past : (n : ℕ) → 2 ^ 127 ≤ n → told n ≡ 2 ^ 127
+pub told_past : (n : ℕ) → 2 ^ 127 ≤ n → capped n ≡ 2 ^ 127
 told_past n high = min_comm n (2 ^ 127) ∙ min-eq_left high
 
-pub told_low : (n told_n : ℕ) → told_n ≡ told n → told_n ≤ 2 ^ 127
+pub told_low : (n told_n : ℕ) → told_n ≡ capped n → told_n ≤ 2 ^ 127
 told_low n told_n is = omega (arith, is, min-le_right n (2 ^ 127))
 
 -- a factor may be told before it is multiplied
-pub told_first : (a b : ℕ) → told (told a * b) ≡ told (a * b)
-told_first a zero = ap told (mul-zero (told a) ∙ sym (mul-zero a))
+pub told_first : (a b : ℕ) → capped (capped a * b) ≡ capped (a * b)
+told_first a zero = ap capped (mul-zero (capped a) ∙ sym (mul-zero a))
 told_first a (suc b) = elim (cases_lt a (2 ^ 127)) [
-  | inl low ↦ ap (λ (n : ℕ). told (n * suc b)) (told_less a (omega (arith, low)))
+  | inl low ↦ ap (λ (n : ℕ). capped (n * suc b)) (told_less a (omega (arith, low)))
   | inr high ↦
       let some : 1 ≤ suc b = omega arith in
       let once : 2 ^ 127 * 1 ≤ 2 ^ 127 * suc b = mul-le-mul_left (2 ^ 127) some in
       let more : 2 ^ 127 * suc b ≤ a * suc b = mul-le-mul_right (suc b) high in
-      ap (λ (n : ℕ). told (n * suc b)) (told_past a high) ∙ told_past (2 ^ 127 * suc b) (omega (arith, once))
+      ap (λ (n : ℕ). capped (n * suc b)) (told_past a high) ∙ told_past (2 ^ 127 * suc b) (omega (arith, once))
       ∙ sym (told_past (a * suc b) (omega (arith, once, more)))
 ]
 
 pub told_more : (marks : List Mark) (place product next : ℕ) (mark : Mark) → place < length marks
-    → mark ≡ get_or marks place mark → next ≡ told (product * (mark.most + 1))
-    → told (product * counts_of (drop place marks)) ≡ told (counts_of marks)
-    → told (next * counts_of (drop (place + 1) marks)) ≡ told (counts_of marks)
+    → mark ≡ get_or marks place mark → next ≡ capped (product * (mark.most + 1))
+    → capped (product * counts_of (drop place marks)) ≡ capped (counts_of marks)
+    → capped (next * counts_of (drop (place + 1) marks)) ≡ capped (counts_of marks)
 told_more marks place product next mark inside here is so_far =
     let rest : ℕ = counts_of (drop (place + 1) marks) in
     let next_mark : counts_of (drop place marks) ≡ (mark.most + 1) * counts_of (drop (place + 1) marks) =
     ap counts_of (drop_more marks place mark inside)
     ∙ ap (λ (one : Mark). counts_of (one ∷ drop (place + 1) marks)) (sym here) in
-    ap (λ (n : ℕ). told (n * rest)) is
+    ap (λ (n : ℕ). capped (n * rest)) is
     ∙ told_first (product * (mark.most + 1)) rest
-    ∙ ap told (mul_assoc product (mark.most + 1) rest) ∙ ap (λ (n : ℕ). told (product * n)) (sym next_mark) ∙ so_far
+    ∙ ap capped (mul_assoc product (mark.most + 1) rest) ∙ ap (λ (n : ℕ). capped (product * n)) (sym next_mark) ∙ so_far
 
 pub told_all : (marks : List Mark) (place product : ℕ) → length marks ≤ place → product ≤ 2 ^ 127
-    → told (product * counts_of (drop place marks)) ≡ told (counts_of marks) → product ≡ told (counts_of marks)
+    → capped (product * counts_of (drop place marks)) ≡ capped (counts_of marks) → product ≡ capped (counts_of marks)
 told_all marks place product past low is =
-    sym (told_less product low) ∙ ap told (sym (mul-one product))
-    ∙ ap (λ (rest : List Mark). told (product * counts_of rest)) (sym (drop_all place marks past)) ∙ is
+    sym (told_less product low) ∙ ap capped (sym (mul-one product))
+    ∙ ap (λ (rest : List Mark). capped (product * counts_of rest)) (sym (drop_all place marks past)) ∙ is
 
 -- so many words times counts that are told
-pub told_product : (words counts told_counts product : ℕ) → told_counts ≡ told counts
-    → product ≡ told (words * told_counts) → product ≡ told (words * counts)
+pub told_product : (words counts told_counts product : ℕ) → told_counts ≡ capped counts
+    → product ≡ capped (words * told_counts) → product ≡ capped (words * counts)
 told_product zero counts told_counts product is all =
-    all ∙ ap told (zero-mul told_counts ∙ sym (zero-mul counts))
+    all ∙ ap capped (zero-mul told_counts ∙ sym (zero-mul counts))
 told_product (suc words) counts told_counts product is all =
-    all ∙ ap told (mul_comm (suc words) told_counts) ∙ ap (λ (n : ℕ). told (n * suc words)) is
-    ∙ told_first counts (suc words) ∙ ap told (mul_comm counts (suc words))
+    all ∙ ap capped (mul_comm (suc words) told_counts) ∙ ap (λ (n : ℕ). capped (n * suc words)) is
+    ∙ told_first counts (suc words) ∙ ap capped (mul_comm counts (suc words))
 
 -- what is told as few is few
-pub few_told : (n : ℕ) → told n ≤ 4000000 → n ≤ 4000000
+pub few_told : (n : ℕ) → capped n ≤ 4000000 → n ≤ 4000000
 few_told n few = elim (cases_lt n (2 ^ 127)) [
   | inl low ↦ omega (arith, told_less n (omega (arith, low)), few)
   | inr high ↦ absurd (omega (arith, told_past n high, few))
 ]
 
 -- what is few is told as it is
-pub many_told : (n : ℕ) → 4000000 < told n → 4000000 < n
+pub many_told : (n : ℕ) → 4000000 < capped n → 4000000 < n
 many_told n many = omega (arith, many, min-le_left n (2 ^ 127))
 
-pub told_many : (n : ℕ) → 4000000 < n → 4000000 < told n
+pub told_many : (n : ℕ) → 4000000 < n → 4000000 < capped n
 told_many n many = elim (cases_lt n (2 ^ 127)) [
   | inl low ↦ omega (arith, told_less n (omega (arith, low)), many)
   | inr high ↦ omega (arith, told_past n high)
 ]
 
 -- what is told as less than 2^127 is as it is told
-pub told_exact : (n : ℕ) → told n < 2 ^ 127 → told n ≡ n
+pub told_exact : (n : ℕ) → capped n < 2 ^ 127 → capped n ≡ n
 told_exact n low = elim (cases_lt n (2 ^ 127)) [
   | inl less ↦ told_less n (omega (arith, less))
   | inr high ↦ absurd (omega (arith, told_past n high, low))
 ]
 
-pub told_from : (n : ℕ) → 2 ^ 127 ≤ told n → 2 ^ 127 ≤ n
+pub told_from : (n : ℕ) → 2 ^ 127 ≤ capped n → 2 ^ 127 ≤ n
 told_from n high = omega (arith, high, min-le_left n (2 ^ 127))
 
 -- Of eight marks at most, and no more words than there are, the product is told as it is.
 pub told_of_few : (words : ℕ) (marks : List Mark) → words ≤ 2004 → length marks ≤ 8
-    → told (words * counts_of marks) ≡ words * counts_of marks
+    → capped (words * counts_of marks) ≡ words * counts_of marks
 told_of_few words marks low few =
     let one : words * counts_of marks ≤ 2004 * counts_of marks = mul-le-mul_right (counts_of marks) low in
     told_less (words * counts_of marks) (omega (arith, one, counts_few marks few))

@@ -1,5 +1,6 @@
 -- The edges of nodes free of marks, as rows of indices in the order of discovery.
-use Rattle.std.specs.Prelude.{◌≡◌, ℕ, IsNone, List, slice_get, Option, Some, Contains, filter_map, map}
+use Rattle.std.specs.Prelude.{◌≡◌, ℕ, IsNone, List, slice_get, Option, Some, Contains, filter_map}
+use Rattle.std.specs.Prelude.{map}
 use Rattle.drum_core.specs.declared.word.Word.{Word}
 use Rattle.drum_times.specs.Allowed.{Notes}
 use Rattle.drum_times.specs.Marks.{mark_on}

@@ -1,7 +1,7 @@
 //! When a deck with its notes is accepted.
 
 ghost use Rattle.std.specs.Prelude.{◌≡◌, IfOk, IfErr};
-ghost use Rattle.drum_deck.specs.Loads.{loads_in, start_in};
+ghost use Rattle.drum_deck.specs.InDeck.{loads_in, start_in};
 ghost use Rattle.drum_flow.specs.Accepted.{IsAccepted};
 ghost use Rattle.drum_flow.specs.Flow.{deck_of, notes_of, executed_in};
 ghost use Rattle.drum_acceptance.specs.Acceptance.{IsRefusal};

@@ -1,7 +1,7 @@
 //! The checks of acceptance, in their order, and what comes of a deck that they let pass.
 
 ghost use Rattle.std.specs.Prelude.{◌≡◌, ◌<◌, ◌≤◌, ℕ, [], length, map, Contains, IfOk, IfErr};
-ghost use Rattle.drum_deck.specs.Loads.{loads_in, start_in};
+ghost use Rattle.drum_deck.specs.InDeck.{loads_in, start_in};
 ghost use Rattle.drum_flow.specs.Accepted.{IsAccepted, IsAdmitted};
 ghost use Rattle.drum_flow.specs.Executed.{AreAllNodes};
 ghost use Rattle.drum_flow.specs.Flow.{deck_of, notes_of, nodes_of, executed_in, of_flow};

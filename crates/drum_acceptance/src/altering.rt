@@ -1,12 +1,13 @@
 //! That no instruction of an executed location alters one without a list.
 
 ghost use Rattle.std.specs.Prelude.{ℕ, Contains, IfSome, IfNone, IfErr, OnOk};
-ghost use Rattle.drum_deck.specs.Loads.{loads_in};
+ghost use Rattle.drum_deck.specs.InDeck.{loads_in};
 ghost use Rattle.drum_times.specs.Allowed.{allowed, matching};
 ghost use Rattle.drum_flow.specs.Accepted as said;
 ghost use Rattle.drum_flow.specs.Accepted.{IsLowestAltered};
 ghost use Rattle.drum_flow.specs.Flow.{deck_of, executed_in, notes_of, of_flow, AreExecuted};
-ghost use Rattle.drum_acceptance.specs.Altering.{FlagsFixed, IsFirstAltered, NoneAlters, AltersNone};
+ghost use Rattle.drum_acceptance.specs.Altering.{FlagsFixed, IsFirstAltered, NoneAlters};
+ghost use Rattle.drum_acceptance.specs.Altering.{AltersNone};
 ghost use Rattle.drum_acceptance.specs.Altering.{IsAlteredBy};
 
 use crate::fixed::Fixed;

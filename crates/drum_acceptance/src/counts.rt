@@ -2,7 +2,7 @@
 
 ghost use Rattle.std.specs.Prelude.{◌≡◌, ◌*◌, ◌^◌, min};
 ghost use Rattle.drum_flow.specs.Accepted as said;
-ghost use Rattle.drum_flow.specs.Accepted.{told};
+ghost use Rattle.drum_flow.specs.Accepted.{capped};
 
 use drum_times::Mark;
 
@@ -11,7 +11,7 @@ pub const LARGEST: u128 = 1 << 127;
 
 /// The product of two numbers; 2^127 where that is more.
 pub fn product(one: u128, other: u128) -> u128
-    ensures { result ≡ told (one * other) }
+    ensures { result ≡ capped (one * other) }
 {
     match one.checked_mul(other) {
         Some(product) if product < LARGEST => product,
@@ -22,7 +22,7 @@ pub fn product(one: u128, other: u128) -> u128
 /// How many counts of these marks there can be: the product of `most + 1` over the marks; 2^127
 /// where that is more.
 pub fn counts_of(marks: &[Mark]) -> u128
-    ensures { result ≡ told (said.counts_of marks.now) }
+    ensures { result ≡ capped (said.counts_of marks.now) }
 {
     let mut counts: u128 = 1;
     for mark in marks {
@@ -33,7 +33,7 @@ pub fn counts_of(marks: &[Mark]) -> u128
 
 /// So many executed words times the counts of these marks; 2^127 where that is more.
 pub fn product_of(words: usize, marks: &[Mark]) -> u128
-    ensures { result ≡ told (words * said.counts_of marks.now) }
+    ensures { result ≡ capped (words * said.counts_of marks.now) }
 {
     product(words as u128, counts_of(marks))
 }

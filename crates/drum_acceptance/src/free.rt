@@ -1,7 +1,7 @@
 //! The edges of nodes free of marks, as a graph of the nodes' indices in the order of discovery.
 
 ghost use Rattle.std.specs.Prelude.{◌≡◌, ◌<◌, IfOk, Some, length, map, slice_get};
-ghost use Rattle.drum_deck.specs.Loads.{loads_in};
+ghost use Rattle.drum_deck.specs.InDeck.{loads_in};
 ghost use Rattle.drum_order.specs.Graph.{row, size};
 ghost use Rattle.drum_order.specs.Rows.{targets_in};
 ghost use Rattle.drum_flow.specs.Flow.{deck_of, nodes_of, notes_of};
@@ -10,8 +10,8 @@ ghost use Rattle.drum_acceptance.specs.Free.{IsFreeRow, IsUnmarkedRow, AreFreeRo
 
 use drum_core::Location;
 use drum_flow::Flow;
-use drum_flow::executed::Executed;
-use drum_order::graph::Graph;
+use drum_flow::location_set::LocationSet;
+use drum_order::Graph;
 use drum_times::Mark;
 use std::alloc::{AllocError, Global};
 
@@ -22,7 +22,7 @@ fn free_row(alloc: Global, flow: &Flow<'_>, node: usize) -> Result<Vec<usize>, A
         × IsFreeRow (loads_in (deck_of flow.now)) (notes_of flow.now) (nodes_of flow.now) from
         row.items) }
 {
-    let mut targets = Executed::none(alloc);
+    let mut targets = LocationSet::none(alloc);
     targets.add_successors(flow.deck(), flow.notes(), flow.location(node))?;
     unmarked_row(alloc, flow, targets.locations(), node)
 }

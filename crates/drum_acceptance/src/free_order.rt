@@ -1,7 +1,7 @@
 //! An order of the nodes in which every edge free of marks goes on, or a cycle of such edges.
 
 ghost use Rattle.std.specs.Prelude.{◌≡◌, ℕ, ◌<◌, [], map, length, Contains, IfOk, IfErr};
-ghost use Rattle.drum_deck.specs.Loads.{loads_in};
+ghost use Rattle.drum_deck.specs.InDeck.{loads_in};
 ghost use Rattle.drum_order.specs.Graph.{row, size, IsCycle};
 ghost use Rattle.drum_flow.specs.Executed.{AreAllNodes};
 ghost use Rattle.drum_flow.specs.Flow.{deck_of, executed_in, nodes_of, notes_of, of_flow, AreFound};
@@ -11,9 +11,7 @@ ghost use Rattle.drum_acceptance.specs.Free.{IsCycleRefusal};
 use crate::free::free_graph;
 use drum_core::Location;
 use drum_flow::{Cycle, Flow, Refusal};
-use drum_order::graph::Graph;
-use drum_order::graph::sort::sort;
-use drum_order::graph::sorted::Sorted;
+use drum_order::{Graph, Sorted, sort};
 use std::alloc::{AllocError, Global};
 
 /// An order of the nodes in which every edge free of marks goes on.

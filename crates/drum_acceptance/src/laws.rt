@@ -6,7 +6,7 @@ ghost use Rattle.drum_times.specs.declared.notes.mark.Mark.{Mark};
 ghost use Rattle.drum_times.specs.Allowed.{Notes};
 ghost use Rattle.drum_flow.specs.declared.refusal.Refusal.{Refusal};
 ghost use Rattle.drum_flow.specs.declared.refusal.Refusal.TheVariants.{Memory};
-ghost use Rattle.drum_flow.specs.Accepted.{product_of, told, IsAccepted};
+ghost use Rattle.drum_flow.specs.Accepted.{product_of, capped, IsAccepted};
 ghost use Rattle.drum_acceptance.specs.Acceptance.{IsRefusal};
 
 /// A deck that is accepted with its notes isn't refused, except where there is no memory.
@@ -20,5 +20,5 @@ pub fn accepted_is_not_refused()
 /// told as they are.
 pub fn few_marks_are_told()
     ensures { (executed : List ℕ) (marks : List Mark) → length executed ≤ 2004 → length marks ≤ 8
-        → told (product_of executed marks) ≡ product_of executed marks }
+        → capped (product_of executed marks) ≡ product_of executed marks }
 {}

@@ -11,8 +11,11 @@
 //! Definitions: `Acceptance` (which refusal is given; `drum_flow` has when a deck is accepted). The
 //! others say what the code means by these: `Altering`, `Fixed`, `Size`, `Free` and `AcceptedFlow`.
 //!
-//! Proofs. `Acceptances`, why a deck is accepted, and `Plain`, of nodes where notes have no calls,
-//! have laws that other crates use.
+//! Proofs. These have laws that other crates use: `Acceptances`, why a deck is accepted; `Plain`,
+//! of nodes where notes have no calls; `Products`, of products as they are counted; `FreeRows`, of
+//! the edges free of marks; `Heights`, of orders in which every edge goes on; `Alterations`, of
+//! words that are altered; `Translations`, of indices and their nodes. `Flags` is on words that are
+//! fixed, and `Refusals` shows that an accepted deck isn't refused.
 #![tactic(auto)]
 
 mod acceptance;

@@ -3,14 +3,14 @@
 ghost use Rattle.std.specs.Prelude.{◌≤◌, IfErr, OnOk};
 ghost use Rattle.drum_flow.specs.Flow.{executed_in, notes_of};
 ghost use Rattle.drum_flow.specs.Accepted as said;
-ghost use Rattle.drum_flow.specs.Accepted.{told};
+ghost use Rattle.drum_flow.specs.Accepted.{capped};
 ghost use Rattle.drum_acceptance.specs.Size.{IsTooMuch};
 
 use crate::counts::product_of;
 use drum_flow::{Flow, Refusal};
 
 /// The most that executed words times counts may be.
-const LIMIT: u128 = 4_000_000;
+const LARGEST_SIZE: u128 = 4_000_000;
 
 /// Checks that executed words times counts is 4,000,000 at most.
 ///
@@ -21,10 +21,10 @@ pub fn check_small(flow: &Flow<'_>) -> Result<(), Refusal>
     ensures small { OnOk result (said.product_of (executed_in flow.now) (notes_of flow.now).marks
         ≤ 4000000) }
     ensures large { IfErr result
-        (IsTooMuch (told (said.product_of (executed_in flow.now) (notes_of flow.now).marks))) }
+        (IsTooMuch (capped (said.product_of (executed_in flow.now) (notes_of flow.now).marks))) }
 {
     let product = product_of(flow.executed().len(), flow.notes().marks());
-    if product > LIMIT {
+    if product > LARGEST_SIZE {
         return Err(Refusal::TooLarge(product));
     }
     Ok(())

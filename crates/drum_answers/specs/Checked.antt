@@ -1,6 +1,6 @@
 -- What a check of texts comes to, as it is held.
 use Rattle.std.specs.Prelude.{◌≡◌, ◌≢◌, ◌≤◌, ◌^◌, [], length, Option}
-use Rattle.drum_deck.specs.Loads.{loads_in, start_in}
+use Rattle.drum_deck.specs.InDeck.{loads_in, start_in}
 use Rattle.drum_deck.specs.declared.deck.fault.DeckFault.TheVariants as of_deck
 use Rattle.drum_times.specs.declared.fault.NoteFault.TheVariants as of_note
 use Rattle.drum_lines.specs.declared.fault.Fault.{Fault}

@@ -1,7 +1,7 @@
 -- What is said of documents and of texts, and when.
 use Rattle.std.specs.Prelude.{◌≡◌, ◌≢◌, ℕ, if◌then◌else◌, List, [], Option, ◌⊎◌, length}
 use Rattle.std.specs.List.{list_all}
-use Rattle.drum_deck.specs.Loads.{loads_in, start_in}
+use Rattle.drum_deck.specs.InDeck.{loads_in, start_in}
 use Rattle.drum_times.specs.Entries.{entry_in}
 use Rattle.drum_toml.specs.declared.notes.notes_read.NotesRead.TheVariants.{Long}
 use Rattle.drum_flow.specs.Accepted.{counts_of}
@@ -19,20 +19,21 @@ use Rattle.drum_command.specs.declared.command.Question.TheVariants.{Draw, Ceili
 use Rattle.drum_lines.specs.declared.fault.Fault.{Fault}
 use Rattle.drum_lines.specs.declared.status.Status.{Status}
 use Rattle.drum_lines.specs.declared.status.Status.TheVariants.{Done, Refused}
-use Rattle.drum_lines.specs.FaultStatus.{IsWanting}
+use Rattle.drum_lines.specs.FaultStatus.{IsOutOfMemory}
 use Rattle.drum_lines.specs.Reply.{Reply, bound_reply, lists, says}
-use Rattle.drum_check.specs.Findings.{AreFindings, Finding, may_be_meant}
+use Rattle.drum_finding.specs.Finding.{Finding, may_be_meant}
+use Rattle.drum_check.specs.Findings.{AreFindings}
 use Rattle.drum_check.specs.Lacking.{are_long, check_text}
 use Rattle.drum_graph.specs.Graph.{AreNodes, Node}
 use Rattle.drum_graph.specs.GraphText.{graph_text}
 use Rattle.drum_graph.specs.Outline.{outlined}
 use Rattle.drum_faults.specs.FaultLines as printed
 use Rattle.drum_report.specs.Report.{report_text}
+use Rattle.drum_hop_lines.specs.Waits.{AreDearestFirst}
+use Rattle.drum_hop_lines.specs.WaitsText.{waits_text}
+use Rattle.drum_hop_lines.specs.WalkText.{walk_text}
 use Rattle.drum_listing.specs.SizeText.{hops_among, size_text}
 use Rattle.drum_listing.specs.TableText.{AreInOrder, table_text}
-use Rattle.drum_listing.specs.Waits.{AreDearestFirst}
-use Rattle.drum_listing.specs.WaitsText.{waits_text}
-use Rattle.drum_listing.specs.WalkText.{walk_text}
 use Rattle.drum_bracket.specs.CeilingText.{ceiling_text}
 use Rattle.drum_bracket.specs.RoundsText.{rounds_text}
 use Rattle.drum_bracket.specs.RoundsWaits.{rounds_waits_text}
@@ -253,5 +254,5 @@ SaysCheck files texts inputs reply =
 -- why nothing is said of them: that the program is out of memory; or of the deck that they say,
 -- that there are too many nodes
 abbrev pub RefusesCheck : Texts → Fault → Type 0
-RefusesCheck texts fault = IsWanting fault
+RefusesCheck texts fault = IsOutOfMemory fault
     ⊎ ((documents : Documents) × Say Long texts documents × IsDiscoveryFault documents fault)

@@ -259,7 +259,7 @@ fn say_ceiling<O: Output>(
 ///
 /// Why there is none: the deck with its notes is refused, or the program is out of memory. Nothing
 /// has been written then. (A write that fails is no error here: the status tells it.)
-pub fn answer<O: Output>(
+pub fn answer_question<O: Output>(
     alloc: Global,
     question: Question,
     documents: &Documents,

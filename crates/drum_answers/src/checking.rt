@@ -1,7 +1,7 @@
 //! A check of texts: all of their faults, or all that keeps the deck that they say from a bound.
 
 ghost use Rattle.std.specs.Prelude.{◌≡◌, [], IfOk, IfErr, ◌≤◌, ◌^◌, length, option_map};
-ghost use Rattle.drum_deck.specs.Loads.{loads_in, start_in};
+ghost use Rattle.drum_deck.specs.InDeck.{loads_in, start_in};
 ghost use Rattle.drum_check.specs.Findings.{AreFindings};
 ghost use Rattle.drum_check.specs.FindingsOf.{found_in, is_long_in};
 ghost use Rattle.drum_check.specs.Lacking.{are_long, words_altered};
@@ -14,7 +14,7 @@ ghost use Rattle.drum_documents.specs.TextsOf.{inputs_in, texts_in};
 ghost use Rattle.drum_documents.specs.Asked.{name_in};
 ghost use Rattle.drum_answers.specs.Says.{AreLinesOfFaults, RefusesCheck};
 ghost use Rattle.drum_documents.specs.Limits.{IsDiscoveryFault};
-ghost use Rattle.drum_lines.specs.FaultStatus.{IsWanting};
+ghost use Rattle.drum_lines.specs.FaultStatus.{IsOutOfMemory};
 
 use drum_check::{Findings, Lacking};
 use drum_command::Files;
@@ -46,7 +46,7 @@ fn lines_of(
     ensures lines { IfOk result (λ lines. AreLinesOfFaults files.entry (texts_in texts.now)
         (option_map named inputs.entry) lines.items) }
     ensures short { IfOk result (λ lines. length lines.items ≤ 2 ^ 61) }
-    ensures wanting { IfErr result IsWanting }
+    ensures memory { IfErr result IsOutOfMemory }
 {
     let deck = NamedText {
         name: files.deck,
@@ -109,7 +109,7 @@ fn sound_documents(
 ) -> Result<Documents, Fault>
     requires { AreLinesOfFaults files (texts_in texts.now) (option_map named inputs) [] }
     ensures said { IfOk result (Say Long (texts_in texts.now)) }
-    ensures wanting { IfErr result IsWanting }
+    ensures memory { IfErr result IsOutOfMemory }
 {
     sound_where_none();
     says_times();

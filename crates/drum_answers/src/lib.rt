@@ -19,6 +19,6 @@ mod basis;
 mod checking;
 mod telling;
 
-pub use answering::answer;
+pub use answering::answer_question;
 pub use checking::{Checked, check, named_inputs};
 pub use telling::tell_findings;

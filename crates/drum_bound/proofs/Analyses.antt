@@ -21,7 +21,7 @@ use Rattle.drum_bound.specs.AnalysisOf.{turns_of, visits_of, words_of}
 use Rattle.drum_bound.proofs.EntriesRaised.{are_raised}
 use Rattle.drum_bound.proofs.EntryEnds.{ends_of, are_ends, as_many_ends}
 use Rattle.drum_bound.specs.Counted.{CountsTableOf, turns_in}
-use Rattle.drum_bound.specs.Kept.{pairs_of}
+use Rattle.drum_bound.specs.InEntries.{pairs_of}
 use Rattle.drum_bound.specs.Keys.{keys_of, IsOrdered}
 use Rattle.drum_bound.specs.KeysOf.{setting_of}
 use Rattle.drum_bound.specs.RowOf.{row_in}
@@ -32,7 +32,7 @@ use Rattle.drum_bound.proofs.ShortWalks.{short_walk}
 use Rattle.drum_bound.specs.ScanOf.{AreCells, IsDone, setting_in}
 use Rattle.drum_bound.specs.Scanned.{Scanned, turns_below}
 use Rattle.drum_bound.specs.Table.{start_angle, Row, IsTable}
-use Rattle.drum_bound.specs.Held.{kept_in}
+use Rattle.drum_bound.specs.InCells.{kept_in}
 use Rattle.drum_bound.proofs.Worsts.{is_worst}
 
 -- What a finished scan and its walk are, of these keys and this timing table.

@@ -15,9 +15,9 @@ use Rattle.drum_bound.specs.declared.cells.entries.Entries.{Entries}
 use Rattle.drum_bound.specs.declared.key_hop.KeyHop.{KeyHop}
 use Rattle.drum_bound.specs.declared.latest.Latest.{Latest}
 use Rattle.drum_bound.specs.declared.worst.Worst.{Worst}
-use Rattle.drum_bound.specs.Kept.{latest_at, kept_by, kept_of, pairs_of, AreKept, IsEntryOf, IsTimed, Keeps}
+use Rattle.drum_bound.specs.InEntries.{latest_at, kept_by, kept_of, pairs_of, AreKept, IsEntryOf, IsTimed, Keeps}
 use Rattle.drum_bound.specs.Scanned.{later_than}
-use Rattle.drum_bound.proofs.HeldLaws.{later_is_new, later_is_old, latest_came, latest_of}
+use Rattle.drum_bound.proofs.InCellsLaws.{later_is_new, later_is_old, latest_came, latest_of}
 
 -- the first key that is one is that of its entry
 first_found : (key : ℕ) (pairs : List (ℕ × Worst)) (index : ℕ) → index < length (keys_of pairs)

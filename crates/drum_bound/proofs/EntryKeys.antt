@@ -9,11 +9,10 @@ use Rattle.std.proofs.lemmas.List.{length-map}
 use Rattle.std.proofs.lemmas.Map.Keys.{IsDistinct-head, IsDistinct-tail}
 use Rattle.std.proofs.lemmas.Map.Steps.{length-le_from_distinct_below}
 use Rattle.drum_order.specs.Graph.{AreDifferent}
-use Rattle.drum_order.proofs.Lists.{contains_here, contains_there, contains_cases, contains_from_get, contains_none}
+use Rattle.drum_order.proofs.Lists.{contains_cases, contains_from_get, contains_here, contains_map, contains_none, contains_there}
 use Rattle.drum_bound.specs.declared.key_hop.KeyHop.{KeyHop}
 use Rattle.drum_bound.specs.declared.worst.Worst.{Worst}
-use Rattle.drum_bound.specs.Kept.{latest_at, kept_by, IsEntryOf}
-use Rattle.drum_bound.proofs.Lists.{contains_map}
+use Rattle.drum_bound.specs.InEntries.{latest_at, kept_by, IsEntryOf}
 
 -- a key that is unlike each of the others isn't one of them
 unlike : (key : ℕ) (keys : List ℕ) → AllByRecursion (λ other. nat_eq key other ≡ false) keys → ¬ Contains keys key

@@ -1,7 +1,7 @@
 -- What a finished scan, as it is held, gives to the lemmas on its cells.
 use Rattle.std.proofs.Common.{◌≡◌, ℕ, ◌+◌, ◌<◌, ◌≤◌, Some, sym, ◌∙◌, arith}
 use Rattle.drum_deck.specs.declared.deck.Deck.{Deck}
-use Rattle.drum_deck.specs.Loads.{start_in}
+use Rattle.drum_deck.specs.InDeck.{start_in}
 use Rattle.drum_machine.specs.Timing.{longest_step}
 use Rattle.drum_flow.specs.Flow.{deck_of}
 use Rattle.drum_flow.proofs.LongestLaws.{longest_near}
@@ -12,7 +12,7 @@ use Rattle.drum_bound.specs.Keys.{place_at, IsOrdered}
 use Rattle.drum_bound.specs.ScanOf.{IsDone, order_of, setting_in, size_in}
 use Rattle.drum_bound.specs.Scanned.{cell_at, IsEndOf}
 use Rattle.drum_bound.specs.Table.{start_angle}
-use Rattle.drum_bound.specs.Held.{kept_in}
+use Rattle.drum_bound.specs.InCells.{kept_in}
 use Rattle.drum_bound.proofs.Walked.{not_before}
 
 -- a deck starts on the drum

@@ -13,8 +13,8 @@ use Rattle.drum_bound.specs.declared.leap.Leap.{Leap}
 use Rattle.drum_bound.specs.declared.round.Counted.{Counted}
 use Rattle.drum_bound.specs.declared.round.Round.{Round}
 use Rattle.drum_bound.specs.declared.scan.Scan.{Scan}
-use Rattle.drum_bound.specs.declared.search.Search.{Search}
-use Rattle.drum_bound.specs.Held.{IsOnward}
+use Rattle.drum_bound.specs.declared.instruction_search.InstructionSearch.{InstructionSearch}
+use Rattle.drum_bound.specs.InCells.{IsOnward}
 use Rattle.drum_bound.specs.Keys.{counts_at, keys_of, place_at, IsKey}
 use Rattle.drum_bound.specs.RoundOf.{IsCounted, counted_after}
 use Rattle.drum_bound.specs.RowOf.{counts_number}
@@ -27,7 +27,7 @@ use Rattle.drum_bound.proofs.Onward.{leads_on}
 use Rattle.drum_bound.proofs.RoundLaws.{IsLed, led_key, mark_inside, round_leads}
 use Rattle.drum_bound.proofs.RowsHeld.{cells_size}
 
-module _ (scan : Scan) (round : Round) (search : Search) (number : ℕ) (leap : Leap) (next : ℕ)
+module _ (scan : Scan) (round : Round) (search : InstructionSearch) (number : ℕ) (leap : Leap) (next : ℕ)
     (ready : IsReady scan round search number leap) (goes : seen_way leap.hop.way ≡ to next) where
   abbrev marks : List Mark
   marks = (setting_in scan).notes.marks

@@ -13,8 +13,8 @@ use Rattle.drum_bound.specs.declared.cells.Cells.{Cells}
 use Rattle.drum_bound.specs.declared.leap.Leap.{Leap}
 use Rattle.drum_bound.specs.declared.round.Round.{Round}
 use Rattle.drum_bound.specs.declared.scan.Scan.{Scan}
-use Rattle.drum_bound.specs.declared.search.Search.{Search}
-use Rattle.drum_bound.specs.Held.{kept_in}
+use Rattle.drum_bound.specs.declared.instruction_search.InstructionSearch.{InstructionSearch}
+use Rattle.drum_bound.specs.InCells.{kept_in}
 use Rattle.drum_bound.specs.Keys.{place_at}
 use Rattle.drum_bound.specs.LeapOf.{IsLeap, leap_hop}
 use Rattle.drum_bound.specs.RoundOf.{IsRound}
@@ -90,7 +90,7 @@ half_few b key clock number cells is below half within =
     few_turns b key cells.made (length (hops_at b key) - number) is below (omega (arith, half.turns, within))
 
 -- the instruction is found soon
-found_soon : (b : Scan) (search : Search) → IsScanned b search.key → search.key < b.keys.now.size
+found_soon : (b : Scan) (search : InstructionSearch) → IsScanned b search.key → search.key < b.keys.now.size
     → IsSearch (order_of b) (kept_in b.cells) search → search.found ≤ 4611686018427387904
 found_soon b search is below sought =
     omega (
@@ -103,7 +103,7 @@ found_soon b search is below sought =
     )
 
 -- the next can be
-pub half_ready : (b s : Scan) (round : Round) (search : Search) (number : ℕ) (leap : Leap)
+pub half_ready : (b s : Scan) (round : Round) (search : InstructionSearch) (number : ℕ) (leap : Leap)
     → s ≡ record b { cells = s.cells } → IsScanned b search.key → IsHalfway b search.key search.begun number s.cells
     → search.key < b.keys.now.size → IsRound b.keys.now.accepted.now (search.key / length (order_of b)) round
     → IsSearch (order_of b) (kept_in b.cells) search

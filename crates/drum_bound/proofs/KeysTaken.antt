@@ -13,7 +13,7 @@ use Rattle.drum_bound.specs.declared.scan.Scan.{Scan}
 use Rattle.drum_bound.specs.Keys.{place_at}
 use Rattle.drum_bound.specs.Scanned.{cell_at, Taking, turns_at, turns_below}
 use Rattle.drum_bound.specs.ScanOf.{setting_in, order_of, AreCells, IsScanned, IsAgreed}
-use Rattle.drum_bound.specs.Held.{kept_in}
+use Rattle.drum_bound.specs.InCells.{kept_in}
 use Rattle.drum_bound.proofs.Scans.{skip, open_key, close_key}
 
 -- the hops of keys whose cells are the same are as many

@@ -10,7 +10,7 @@ pub mod FewHops
 mod Finished
 pub mod EntryKeys
 pub mod Halfway
-pub mod HeldLaws
+pub mod InCellsLaws
 mod InTime
 pub mod KeyLaws
 pub mod KeysTaken

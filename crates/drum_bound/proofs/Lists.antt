@@ -1,10 +1,7 @@
 -- What stands at a place of a list, and what is left from there on.
-use Rattle.std.proofs.Common.{◌≡◌, ℕ, zero, suc, ◌+◌, ◌<◌, ◌≤◌, List, [], ◌∷◌, ◌++◌, drop, length, map, refl, ap, sym, ◌∙◌, Some, arith}
-use Rattle.std.specs.Prelude.{slice_get, Contains}
-use Rattle.std.specs.Option.{option_map}
-use Rattle.std.proofs.lemmas.Option.{slice_get-map}
+use Rattle.std.proofs.Common.{◌≡◌, ℕ, zero, suc, ◌+◌, ◌<◌, ◌≤◌, List, [], ◌∷◌, ◌++◌, drop, length, refl, ap, sym, ◌∙◌, Some, arith}
+use Rattle.std.specs.Prelude.{slice_get}
 use Rattle.std.proofs.lemmas.List.{drop-drop}
-use Rattle.drum_order.proofs.Lists.{contains_at, contains_from_get}
 
 -- its first is the member at the place
 pub drop_at : {X : Type 0} (n : ℕ) (xs : List X) (x : X) → slice_get xs n ≡ Some x → drop n xs ≡ x ∷ drop (suc n) xs
@@ -46,9 +43,3 @@ get_behind [] x zero is = refl
 get_behind [] x (suc k) is = absurd (omega (arith, is))
 get_behind (y ∷ xs) x zero is = absurd (omega (arith, is))
 get_behind (y ∷ xs) x (suc k) is = get_behind xs x k (omega (arith, is))
-
--- What a list has, it has when something is made of each.
-pub contains_map : {X Y : Type 0} (f : X → Y) (xs : List X) (x : X) → Contains xs x → Contains (map f xs) (f x)
-contains_map f xs x has =
-    let at = contains_at xs x has in
-    contains_from_get (map f xs) at.0 (f x) (slice_get-map f xs at.0 ∙ ap (option_map f) at.1)

@@ -3,7 +3,7 @@ use Rattle.std.proofs.Common.{◌≡◌, ℕ, ◌*◌, ◌≤◌, List, length, 
 use Rattle.std.proofs.Common.{Option, arith}
 use Rattle.drum_core.specs.declared.word.Word.{Word}
 use Rattle.drum_deck.specs.declared.deck.Deck.{Deck}
-use Rattle.drum_deck.specs.Loads.{loads_in, start_in}
+use Rattle.drum_deck.specs.InDeck.{loads_in, start_in}
 use Rattle.drum_times.specs.Allowed.{Notes, AreSound}
 use Rattle.drum_machine.specs.Calls.{none_open}
 use Rattle.drum_order.specs.Graph.{AreDifferent}

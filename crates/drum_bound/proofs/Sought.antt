@@ -9,8 +9,8 @@ use Rattle.drum_flow.specs.Walk.{Setting}
 use Rattle.drum_bound.specs.declared.leap.Leap.{Leap}
 use Rattle.drum_bound.specs.declared.round.Round.{Round}
 use Rattle.drum_bound.specs.declared.scan.Scan.{Scan}
-use Rattle.drum_bound.specs.declared.search.Search.{Search}
-use Rattle.drum_bound.specs.Held.{kept_in}
+use Rattle.drum_bound.specs.declared.instruction_search.InstructionSearch.{InstructionSearch}
+use Rattle.drum_bound.specs.InCells.{kept_in}
 use Rattle.drum_bound.specs.Keys.{place_at}
 use Rattle.drum_bound.specs.LeapOf.{TakesLongest, leap_hop}
 use Rattle.drum_flow.specs.Longest.{longest}
@@ -23,7 +23,7 @@ use Rattle.drum_bound.proofs.KeysTaken.{hop_among, hops_at}
 use Rattle.drum_flow.proofs.Profiles.{hop_may_end}
 use Rattle.drum_bound.proofs.Scans.{Comes}
 
-module _ (scan : Scan) (round : Round) (search : Search) (number : ℕ) (leap : Leap)
+module _ (scan : Scan) (round : Round) (search : InstructionSearch) (number : ℕ) (leap : Leap)
     (ready : IsReady scan round search number leap) where
   -- It can be reckoned,
   pub can_end : CanEnd (setting_in scan) search number leap

@@ -4,8 +4,8 @@ pub mod Counted
 pub mod Digits
 pub mod EndOf
 pub mod Ends
-pub mod Held
-pub mod Kept
+pub mod InCells
+pub mod InEntries
 pub mod Keys
 pub mod KeysOf
 pub mod LeapOf

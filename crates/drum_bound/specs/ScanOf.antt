@@ -10,14 +10,14 @@ use Rattle.drum_bound.specs.declared.latest.Latest.{Latest}
 use Rattle.drum_bound.specs.declared.leap.Leap.{Leap}
 use Rattle.drum_bound.specs.declared.round.Round.{Round}
 use Rattle.drum_bound.specs.declared.scan.Scan.{Scan}
-use Rattle.drum_bound.specs.declared.search.Search.{Search}
+use Rattle.drum_bound.specs.declared.instruction_search.InstructionSearch.{InstructionSearch}
 use Rattle.drum_bound.specs.Keys.{keys_of, place_at, counts_at, IsKey}
 use Rattle.drum_bound.specs.RowOf.{counts_number}
 use Rattle.drum_bound.specs.KeysOf.{AreKeys, order_in, setting_with}
 use Rattle.drum_bound.specs.LeapOf.{HaveLeaps, IsLeap, leap_hop}
 use Rattle.drum_bound.specs.RoundOf.{IsRound}
 use Rattle.drum_bound.specs.SearchOf.{IsSearch}
-use Rattle.drum_bound.specs.Held.{AreHeld, HaveEntries, kept_in}
+use Rattle.drum_bound.specs.InCells.{AreHeld, HaveEntries, kept_in}
 use Rattle.drum_bound.specs.Scanned.{cell_at, later, raised, Scanned, turns_below}
 use Rattle.drum_bound.specs.Table.{start_angle}
 
@@ -71,7 +71,7 @@ abbrev pub IsDone : Scan → Type 0
 IsDone scan = IsScanned scan (size_in scan)
 
 -- A hop of the key whose instruction is sought, of this number, is to be taken.
-pub record IsReady (scan : Scan) (own_round : Round) (own_search : Search) (number : ℕ)
+pub record IsReady (scan : Scan) (own_round : Round) (own_search : InstructionSearch) (number : ℕ)
     (own_leap : Leap) : Type 0 where
   pub keys : AreKeys scan.keys.now
   pub cells : AreCells (setting_in scan) (order_of scan) scan.cells

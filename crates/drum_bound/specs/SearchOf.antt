@@ -8,7 +8,7 @@ use Rattle.drum_flow.specs.Walk.{Setting}
 use Rattle.drum_bound.specs.declared.key_hop.KeyHop.{KeyHop}
 use Rattle.drum_bound.specs.declared.latest.Latest.{Latest}
 use Rattle.drum_bound.specs.declared.leap.Leap.{Leap}
-use Rattle.drum_bound.specs.declared.search.Search.{Search}
+use Rattle.drum_bound.specs.declared.instruction_search.InstructionSearch.{InstructionSearch}
 use Rattle.drum_bound.specs.Keys.{place_at}
 use Rattle.drum_bound.specs.LeapOf.{TakesLongest, leap_hop}
 use Rattle.drum_flow.specs.Longest.{longest}
@@ -21,17 +21,18 @@ KeepsAt cells key clock = (kept : Latest) × (cell_at cells key ≡ Some kept) �
 
 -- The search is for the location of its key, begins at the clock that is kept there, and finds the
 -- instruction when that can first be had.
-pub record IsSearch (order : List ℕ) (cells : List (Option Latest)) (search : Search) : Type 0 where
+pub record IsSearch (order : List ℕ) (cells : List (Option Latest))
+    (search : InstructionSearch) : Type 0 where
   pub there : search.location.number ≡ place_at order search.key
   pub begun : KeepsAt cells search.key search.begun
   pub found : search.found ≡ first (is_available search.location.number) search.begun
 
 -- the hop of this number of the key whose instruction is sought
-abbrev pub hop_sought : Search → ℕ → KeyHop
+abbrev pub hop_sought : InstructionSearch → ℕ → KeyHop
 hop_sought search number = record { key = search.key; number = number }
 
 -- the latest end of that hop, from the clock at which the search begins
-abbrev pub end_sought : Setting → Search → ℕ → Leap → Latest
+abbrev pub end_sought : Setting → InstructionSearch → ℕ → Leap → Latest
 end_sought g search number leap = record {
   clock = longest g.times search.location.number leap.hop.instruction (seen_way leap.hop.way)
       search.begun;
@@ -40,7 +41,8 @@ end_sought g search number leap = record {
 
 -- The end of the hop of this number can be reckoned from the leap: it is that hop's, of the angle
 -- at which the instruction is found, and the numbers have room.
-pub record CanEnd (g : Setting) (search : Search) (number : ℕ) (leap : Leap) : Type 0 where
+pub record CanEnd (g : Setting) (search : InstructionSearch) (number : ℕ) (leap : Leap) :
+    Type 0 where
   pub hop : slice_get (hops g.loads g.notes search.location.number) number ≡ Some (leap_hop leap)
   pub found : search.found ≡ first (is_available search.location.number) search.begun
   pub time : TakesLongest g search.location.number (search.found % 50) leap

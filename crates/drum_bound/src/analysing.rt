@@ -1,7 +1,7 @@
 //! The analysis: what it promises of the bound, the walk and the table, and the way to them.
 
 ghost use Rattle.std.specs.Prelude.{◌≡◌, ◌+◌, ◌<◌, length, IfOk, IfErr};
-ghost use Rattle.drum_deck.specs.Loads.{loads_in, start_in};
+ghost use Rattle.drum_deck.specs.InDeck.{loads_in, start_in};
 ghost use Rattle.drum_acceptance.specs.Acceptance.{IsRefusal};
 ghost use Rattle.drum_acceptance.specs.AcceptedFlow.{in_order};
 ghost use Rattle.drum_bound.specs.AnalysisOf.{IsAnalysis, IsAnalysisOf, turns_of, words_of};
@@ -77,7 +77,7 @@ pub fn analyse_counting<L: Ledger>(
     // What `marks` promises: the marks are 64 at most.
     let _marks = notes.marks();
     let accepted = AcceptedFlow::of(alloc, deck, notes)?;
-    // What `executed` promises: no location is there twice.
+    // What `location_set` promises: no location is there twice.
     let _executed = accepted.flow().executed();
     let analysis = analysis_of(alloc, &accepted, times, steps)?;
     Ok(analysis)

@@ -1,7 +1,7 @@
 //! The bound alone: the scan of an analysis, with no walk made of it.
 
 ghost use Rattle.std.specs.Prelude.{◌≡◌, ◌^◌, ◌<◌, IfOk, IfErr, OnOk, length};
-ghost use Rattle.drum_deck.specs.Loads.{loads_in, start_in};
+ghost use Rattle.drum_deck.specs.InDeck.{loads_in, start_in};
 ghost use Rattle.drum_flow.specs.SettingOf.{setting};
 ghost use Rattle.drum_acceptance.specs.Acceptance.{IsRefusal};
 ghost use Rattle.drum_acceptance.specs.AcceptedFlow.{in_order};
@@ -82,7 +82,7 @@ pub fn bound_counting<L: Ledger>(
     // What `marks` promises: the marks are 64 at most.
     let _marks = notes.marks();
     let accepted = AcceptedFlow::of(alloc, deck, notes)?;
-    // What `executed` promises: no location is there twice.
+    // What `location_set` promises: no location is there twice.
     let _executed = accepted.flow().executed();
     let found = bound_of(alloc, &accepted, times, steps)?;
     Ok(found)

@@ -1,14 +1,14 @@
 //! What is kept at the keys: the table of worst times while it is raised.
 
 ghost use Rattle.std.specs.Prelude.{◌≡◌, ◌+◌, ◌*◌, ◌/◌, ◌≤◌, ◌<◌, ◌^◌, length};
-ghost use Rattle.drum_bound.specs.Kept.{pairs_of};
+ghost use Rattle.drum_bound.specs.InEntries.{pairs_of};
 
 mod entries;
 mod key_hasher;
 
+use crate::instruction_search::InstructionSearch;
 use crate::latest::Latest;
 use crate::leap::Leap;
-use crate::search::Search;
 use crate::steps::Steps;
 use crate::steps::end::End;
 use crate::worst::Worst;
@@ -55,8 +55,8 @@ impl Cells {
     ghost use Rattle.std.specs.Prelude.{Some, None, IfOk, OnOk};
     ghost use Rattle.std.specs.Map.{values_of};
     ghost use Rattle.drum_flow.specs.Walk.{Setting};
-    ghost use Rattle.drum_bound.specs.Held.{AreHeld, HaveEntries, IsOnward, SameScan};
-    ghost use Rattle.drum_bound.specs.Held.{kept_in, size_of};
+    ghost use Rattle.drum_bound.specs.InCells.{AreHeld, HaveEntries, IsOnward, SameScan};
+    ghost use Rattle.drum_bound.specs.InCells.{kept_in, size_of};
     ghost use Rattle.drum_bound.specs.Scanned.{cell_at, later, raised};
     ghost use Rattle.drum_bound.specs.SearchOf.{KeepsAt, end_sought};
     ghost use Rattle.drum_bound.specs.ToEnd.{IsToEnd};
@@ -184,7 +184,7 @@ impl Cells {
     #[inline(always)]
     pub fn raise<L: Ledger>(
         &mut self,
-        search: &Search,
+        search: &InstructionSearch,
         number: usize,
         leap: &Leap,
         onto: &Onto,
@@ -222,7 +222,7 @@ impl Cells {
     #[inline(always)]
     pub fn stop<L: Ledger>(
         &mut self,
-        search: &Search,
+        search: &InstructionSearch,
         number: usize,
         leap: &Leap,
         steps: &mut Steps<L>,
@@ -244,7 +244,7 @@ impl Cells {
     #[inline(always)]
     pub fn bar<L: Ledger>(
         &mut self,
-        search: &Search,
+        search: &InstructionSearch,
         number: usize,
         leap: &Leap,
         steps: &mut Steps<L>,

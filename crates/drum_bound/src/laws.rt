@@ -1,5 +1,5 @@
-//! Laws of the definitions that an analysis stands on: those of `drum_flow` and `drum_acceptance`, one of the numbers
-//! that stand for counts, and one of timing tables.
+//! Laws of the definitions that an analysis stands on: those of `drum_flow` and `drum_acceptance`,
+//! one of the numbers that stand for counts, and one of timing tables.
 
 ghost use Rattle.std.specs.Prelude.{◌≡◌, ◌≤◌, ℕ, List};
 ghost use Rattle.drum_core.specs.declared.op.Op.{Op};

@@ -4,13 +4,13 @@
 //! Code, from the bottom up. `numbers` stand for counts of marks, and `keys` are locations with
 //! counts, and the one start angle. This is known before the scan: `leap` (a hop with its time and
 //! where it goes on), `recent` (the leaps of a long list, made once for each angle of D), `round`
-//! (the keys with the same counts) and `search` (for a key's instruction). This the scan raises:
-//! `worst` (an entry of the table), `key_hop` (a hop of a key, by its number) and `latest` (what is
-//! kept at a key). `steps` is the ledger on which ends are counted, and `steps/end` has their one
-//! maker. `cells` is what is kept at all keys: an end of a hop is made there, and raises it.
-//! `cells/entries` is the map that is the table, and `cells/key_hasher` its hasher. `scan` takes
-//! each key in turn, and each of its hops. Of a finished scan `trace` makes the walk, followed
-//! back, with its passes, as visits of `drum_walks`. `analysing` has `analyse`,
+//! (the keys with the same counts) and `instruction_search` (for a key's instruction). This the
+//! scan raises: `worst` (an entry of the table), `key_hop` (a hop of a key, by its number) and
+//! `latest` (what is kept at a key). `steps` is the ledger on which ends are counted, and
+//! `steps/end` has their one maker. `cells` is what is kept at all keys: an end of a hop is made
+//! there, and raises it. `cells/entries` is the map that is the table, and `cells/key_hasher` its
+//! hasher. `scan` takes each key in turn, and each of its hops. Of a finished scan `trace` makes
+//! the walk, followed back, with its passes, as visits of `drum_walks`. `analysing` has `analyse`,
 //! and `analysis` what that hands out. `bounding` has `bound`, which makes no walk. `laws` has laws
 //! of the definitions.
 //!
@@ -26,7 +26,7 @@
 //!
 //! Proofs. Laws of numbers of counts (`DigitsLaws`), of leaps that serve more hops (`Recents`), of
 //! keys (`KeyLaws`, `Onward`) and of rounds (`RoundLaws`). Laws of what is held, by entry
-//! (`Entering`, `EntryKeys`) and by key (`HeldLaws`). Laws of the scan, step by step (`Raises`,
+//! (`Entering`, `EntryKeys`) and by key (`InCellsLaws`). Laws of the scan, step by step (`Raises`,
 //! `Scans`, `GoesOnto`, `GoingOn`, `Sought`, `KeysTaken`, `Halfway`). From the finished scan to
 //! walks (`Walked`, `Unpassed`), the bound (`Worsts`), the table (`Rows`, `RowSums`, and `RowsHeld`
 //! as it is handed out) with its ends (`EntryEnds`, `EntriesRaised`) and what arrives under it
@@ -39,6 +39,7 @@ mod analysing;
 mod analysis;
 mod bounding;
 mod cells;
+mod instruction_search;
 mod key_hop;
 mod keys;
 mod latest;
@@ -48,7 +49,6 @@ mod numbers;
 mod recent;
 mod round;
 mod scan;
-mod search;
 mod steps;
 mod trace;
 mod worst;

@@ -4,11 +4,11 @@ ghost use Rattle.std.specs.Prelude.{◌≡◌, ◌+◌, ◌*◌, ◌/◌, ◌%�
 ghost use Rattle.std.specs.Prelude.{IfOk, OnOk};
 
 use crate::cells::{Cells, Onto};
+use crate::instruction_search::InstructionSearch;
 use crate::keys::Keys;
 use crate::leap::Leap;
 use crate::recent::Recent;
 use crate::round::Round;
-use crate::search::Search;
 use crate::steps::Steps;
 use drum_core::{Location, REVOLUTION};
 use drum_flow::Hops;
@@ -35,7 +35,7 @@ impl<'a> Scan<'a> {
     ghost use Rattle.drum_flow.specs.HopsLeft.{hops_left};
     ghost use Rattle.drum_flow.specs.Walk.{Setting};
     ghost use Rattle.drum_walks.specs.Worst.{IsWorst};
-    ghost use Rattle.drum_bound.specs.Held.{kept_in};
+    ghost use Rattle.drum_bound.specs.InCells.{kept_in};
     ghost use Rattle.drum_bound.specs.KeysOf.{AreKeys, order_in, setting_with};
     ghost use Rattle.drum_bound.specs.LeapOf.{AreLeaps, HaveLeaps, leap_hop};
     ghost use Rattle.drum_bound.specs.Scanned.{Taking};
@@ -115,7 +115,7 @@ impl<'a> Scan<'a> {
     fn go_on<L: Ledger>(
         &mut self,
         round: &Round,
-        search: &Search,
+        search: &InstructionSearch,
         number: usize,
         leap: &Leap,
         next: Location,
@@ -154,7 +154,7 @@ impl<'a> Scan<'a> {
     fn take_leap<L: Ledger>(
         &mut self,
         round: &Round,
-        search: &Search,
+        search: &InstructionSearch,
         number: usize,
         leap: &Leap,
         steps: &mut Steps<L>,
@@ -188,7 +188,7 @@ impl<'a> Scan<'a> {
     fn take_leaps<L: Ledger>(
         &mut self,
         round: &Round,
-        search: &Search,
+        search: &InstructionSearch,
         leaps: &[Leap],
         steps: &mut Steps<L>,
     ) -> Result<(), AllocError>
@@ -213,7 +213,7 @@ impl<'a> Scan<'a> {
     fn take_hops<L: Ledger>(
         &mut self,
         round: &Round,
-        search: &Search,
+        search: &InstructionSearch,
         left: Hops<'_>,
         steps: &mut Steps<L>,
     ) -> Result<(), AllocError>
@@ -258,7 +258,7 @@ impl<'a> Scan<'a> {
             return Ok(());
         };
         let location = self.keys.location(index);
-        let search = Search {
+        let search = InstructionSearch {
             key,
             location,
             begun,

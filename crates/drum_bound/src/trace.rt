@@ -1,13 +1,14 @@
 //! The walk whose end is the latest of all that a finished scan keeps.
 
-ghost use Rattle.std.specs.Prelude.{◌≡◌, ℕ, ◌-◌, ◌%◌, ◌<◌, ◌≤◌, length, map, slice_get, slice_index, Some};
+ghost use Rattle.std.specs.Prelude.{◌≡◌, ℕ, ◌-◌, ◌%◌, ◌<◌, ◌≤◌, length, map, slice_get};
+ghost use Rattle.std.specs.Prelude.{slice_index, Some};
 ghost use Rattle.std.specs.Prelude.{IfOk};
 ghost use Rattle.std.specs.Option.{option_map};
 ghost use Rattle.drum_flow.specs.Hops.{Hop as HopOf, hops};
 ghost use Rattle.drum_flow.specs.Seen.{seen_hop};
 ghost use Rattle.drum_walks.specs.Visited.{AreLongest, IsWalkOf, seen_visit, visited};
 ghost use Rattle.drum_bound.specs.AnalysisOf.{ArePasses};
-ghost use Rattle.drum_bound.specs.Held.{kept_in};
+ghost use Rattle.drum_bound.specs.InCells.{kept_in};
 ghost use Rattle.drum_bound.specs.KeysOf.{marks_in};
 ghost use Rattle.drum_bound.specs.ScanOf.{IsDone, order_of, setting_in, size_in};
 ghost use Rattle.drum_bound.specs.Scanned.{cell_at, IsEndOf, IsKeyHop};

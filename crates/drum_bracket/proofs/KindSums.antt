@@ -11,10 +11,10 @@ use Rattle.drum_flow.specs.Longest.{wait_by}
 use Rattle.drum_walks.specs.Visited.{Visited}
 use Rattle.drum_walks.specs.Pieces.{PlacedHop}
 use Rattle.drum_rounds.specs.InRounds.{takes}
-use Rattle.drum_listing.specs.Moments.{is_early}
-use Rattle.drum_listing.specs.Waits.{for_cards, for_data, for_instruction, is_alike, time_of}
-use Rattle.drum_listing.proofs.LaterMoments.{at_once, data_once, instruction_once}
-use Rattle.drum_listing.proofs.WholeFits.{hop_whole}
+use Rattle.drum_hop_lines.specs.Moments.{is_early}
+use Rattle.drum_hop_lines.specs.Waits.{for_cards, for_data, for_instruction, is_alike, time_of}
+use Rattle.drum_hop_lines.proofs.LaterMoments.{at_once, data_once, instruction_once}
+use Rattle.drum_hop_lines.proofs.WholeFits.{hop_whole}
 use Rattle.drum_bracket.specs.RoundsText.{from_to}
 use Rattle.drum_bracket.specs.RoundsWaitsOf.{alone, of_those, waits_cards, waits_data}
 use Rattle.drum_bracket.specs.RoundsWaitsOf.{waits_instruction}

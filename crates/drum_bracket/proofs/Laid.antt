@@ -10,9 +10,9 @@ use Rattle.drum_walks.specs.Visited.{visited, AreLongest, Visited}
 use Rattle.drum_walks.specs.Pieces.{placed, spelled, PlacedHop}
 use Rattle.drum_rounds.specs.declared.in_rounds.InRounds.{InRounds}
 use Rattle.drum_rounds.specs.InRounds.{angle_of, pieces_of, takes}
-use Rattle.drum_listing.specs.Waits.{for_data, for_instruction, time_of}
-use Rattle.drum_listing.proofs.AddingUp.{follow, hop_fits}
-use Rattle.drum_listing.proofs.WholeFits.{known_op}
+use Rattle.drum_hop_lines.specs.Waits.{for_data, for_instruction, time_of}
+use Rattle.drum_hop_lines.proofs.AddingUp.{follow, hop_fits}
+use Rattle.drum_hop_lines.proofs.WholeFits.{known_op}
 use Rattle.drum_bracket.specs.SpelledOut.{placed_visit, AreSpelledOut}
 use Rattle.drum_bracket.proofs.Totals.{hop_takes}
 

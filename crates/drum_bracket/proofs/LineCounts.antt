@@ -16,7 +16,7 @@ use Rattle.drum_walks.specs.declared.piece.Piece.TheVariants as piece
 use Rattle.drum_walks.specs.Pieces.{named}
 use Rattle.drum_bracket.specs.CountsOf.{times_in}
 use Rattle.drum_bracket.specs.RoundsText.{end_line, end_rounds_line, is_composed, is_part, one_more, tell, tell_behind, tell_by, tell_named, tell_one}
-use Rattle.drum_bracket.specs.RoundsText.{tell_part, tell_row, Telling, Told}
+use Rattle.drum_bracket.specs.RoundsText.{tell_part, tell_row, Telling, PartsSoFar}
 use Rattle.drum_bracket.proofs.Lists.{at_before, at_last, at_none}
 use Rattle.drum_bracket.proofs.LineSums.{upto, upto_add, upto_le, none_upto, upto_last, names_sum}
 
@@ -118,14 +118,14 @@ some_same e = cc
 
 module _ (times : Op → Entry) (pieces : List Piece) (all : List ℕ) where
   -- the lines of parts that have not begun
-  left : Told → ℕ
+  left : PartsSoFar → ℕ
   left told = unspent (is_part pieces) (of all) told.part (length pieces)
 
   abbrev Lines : Telling → ℕ → Type 0
-  Lines tell count = (told : Told) → length (tell told).0 + left (tell told).1 ≤ left told + count
+  Lines tell count = (told : PartsSoFar) → length (tell told).0 + left (tell told).1 ≤ left told + count
 
   part_lines : (number count : ℕ) (tell : Telling) → is_part pieces number ≡ true → number < length pieces
-      → of all number ≡ count → Lines tell count → (part : Option ℕ) (told : Told) → told.part number ≡ part
+      → of all number ≡ count → Lines tell count → (part : Option ℕ) (told : PartsSoFar) → told.part number ≡ part
       → length (tell_part number part tell told).0 + left (tell_part number part tell told).1 ≤ left told + 1
   unfolding left
   part_lines number count tell is within so lines None told none =

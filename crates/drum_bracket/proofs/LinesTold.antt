@@ -15,14 +15,14 @@ use Rattle.drum_walks.specs.declared.piece.Piece.TheVariants as piece
 use Rattle.drum_walks.specs.Pieces.{repeated, seen_placed, spelled_at, spelled_behind, spelled_by, spelled_of, PlacedHop}
 use Rattle.drum_rounds.specs.declared.in_rounds.InRounds.{InRounds}
 use Rattle.drum_rounds.specs.InRounds.{angle_of, pieces_of, takes}
-use Rattle.drum_listing.specs.declared.moments.Moments.{Moments}
-use Rattle.drum_listing.specs.Moments.{later, moments_of}
-use Rattle.drum_listing.specs.MomentsText.{moments_text}
-use Rattle.drum_listing.specs.WalkText.{hop_text, visit_line}
-use Rattle.drum_listing.proofs.LaterMoments.{later_moments}
+use Rattle.drum_hop_lines.specs.declared.moments.Moments.{Moments}
+use Rattle.drum_hop_lines.specs.Moments.{later, moments_of}
+use Rattle.drum_hop_lines.specs.MomentsText.{moments_text}
+use Rattle.drum_hop_lines.specs.WalkText.{hop_text, visit_line}
+use Rattle.drum_hop_lines.proofs.LaterMoments.{later_moments}
 use Rattle.drum_bracket.specs.RoundsText.{again_line, end_line, end_rounds_line, first_place, from_to, is_part}
 use Rattle.drum_bracket.specs.RoundsText.{last_place, one_more, part_line, placed_line, rounds_line, tell}
-use Rattle.drum_bracket.specs.RoundsText.{tell_behind, tell_by, tell_named, tell_one, tell_part, tell_row, Telling, Told}
+use Rattle.drum_bracket.specs.RoundsText.{tell_behind, tell_by, tell_named, tell_one, tell_part, tell_row, Telling, PartsSoFar}
 use Rattle.drum_bracket.specs.SpelledOut.{AreSpelledOut}
 use Rattle.drum_bracket.specs.TellsOf.{a_hop, a_part, again, rounds_begin, rounds_end, IsMoment, IsToldOf}
 use Rattle.drum_bracket.proofs.Laid.{are_laid, AreLaid, IsLaid}
@@ -170,7 +170,7 @@ module _ (times : Op → Entry) (angle : ℕ) (visits : List Visited) where
 
   -- What a telling of hops tells is so, wherever in the walk they come.
   abbrev Tells : Telling → List PlacedHop → Type 0
-  Tells tell hops = (told : Told) (vs : List Visited) → AreLaid times angle told.time vs hops → AreOf visits vs
+  Tells tell hops = (told : PartsSoFar) (vs : List Visited) → AreLaid times angle told.time vs hops → AreOf visits vs
       → IsMoment visits told.time → (line : List ℕ) → Contains (tell told).0 line → IsToldOf times angle visits line
 
   abbrev AreTelling : List Telling → List (List PlacedHop) → Type 0

@@ -7,11 +7,11 @@ use Rattle.std.proofs.lemmas.List.{append-nil}
 use Rattle.drum_lines.specs.declared.failed_write.WriteFault.{WriteFault}
 use Rattle.drum_lines.specs.Sent.{IsSent}
 use Rattle.drum_lines.proofs.Sending.{IsSent-cut}
-use Rattle.drum_listing.specs.declared.page.Page.{Page}
-use Rattle.drum_listing.specs.Page.{text_of, HasPassed}
+use Rattle.drum_hop_lines.specs.declared.page.Page.{Page}
+use Rattle.drum_hop_lines.specs.Page.{text_of, HasPassed}
 use Rattle.drum_bracket.specs.declared.progress.Progress.{Progress}
 use Rattle.drum_bracket.specs.RoundsText.{at_time, both, end_line, end_rounds_line, joined, one_more}
-use Rattle.drum_bracket.specs.RoundsText.{part_line, rounds_line, Telling, Told}
+use Rattle.drum_bracket.specs.RoundsText.{part_line, rounds_line, Telling, PartsSoFar}
 use Rattle.drum_bracket.specs.ProgressOf.{held_by, told_of, spent_in, HasAdded, HasMoved, HasTold, MayPass, MayTell}
 
 -- no line
@@ -54,7 +54,7 @@ added_cut old new sent fault held after other xs ys cut = record {
 
 -- ---- what a line costs
 
-pub may_pass : (called count : ℕ) (progress : Progress) (told : List (List ℕ) × Told) → MayTell called count progress told
+pub may_pass : (called count : ℕ) (progress : Progress) (told : List (List ℕ) × PartsSoFar) → MayTell called count progress told
     → MayPass called progress
 may_pass called count progress told may = record {
   calls = omega (arith, may.calls);
@@ -69,9 +69,9 @@ pub then_told : (one other : Telling) (called mid after : ℕ) (old between new 
 then_told one other called mid after old between new first second =
     let same : other (told_of between) ≡ other (one (told_of old)).1 = ap other first.now in
     let long : length (other (told_of between)).0 ≡ length (other (one (told_of old)).1).0 =
-    ap (λ (t : List (List ℕ) × Told). length t.0) same in
+    ap (λ (t : List (List ℕ) × PartsSoFar). length t.0) same in
     let all = length-append (one (told_of old)).0 (other (one (told_of old)).1).0 in record {
-      now = second.now ∙ ap (λ (t : List (List ℕ) × Told). t.1) same;
+      now = second.now ∙ ap (λ (t : List (List ℕ) × PartsSoFar). t.1) same;
       parts = second.parts ∙ first.parts;
       calls = omega (arith, first.calls, second.calls, long, all);
       few = omega (arith, first.few, second.few, long, all);
@@ -85,16 +85,16 @@ pub then_lines : (one other : Telling) (old between new : Option (List ℕ)) (be
 then_lines one other old between new before mid result after same first second =
     added_then old between new before.sent mid.sent (held_by before) (held_by mid) after (one (told_of before)).0
     (other (one (told_of before)).1).0 result first
-    (subst (λ (t : Told). HasAdded between new mid.sent (held_by mid) result after (other t).0) same second)
+    (subst (λ (t : PartsSoFar). HasAdded between new mid.sent (held_by mid) result after (other t).0) same second)
 
 -- ---- a line, and a moment
 
-pub line_told : (line : List ℕ) (ended called after : ℕ) (old new : Progress) (told : List (List ℕ) × Told)
+pub line_told : (line : List ℕ) (ended called after : ℕ) (old new : Progress) (told : List (List ℕ) × PartsSoFar)
     → told ≡ (line ∷ [], at_time ended (told_of old)) → HasMoved called after old new
     → HasTold called after old (record new { time = ended }) told
 line_told line ended called after old new told is moved =
-    let long : length told.0 ≡ 1 = ap (λ (t : List (List ℕ) × Told). length t.0) is in record {
-      now = ap (at_time ended) moved.same ∙ sym (ap (λ (t : List (List ℕ) × Told). t.1) is);
+    let long : length told.0 ≡ 1 = ap (λ (t : List (List ℕ) × PartsSoFar). length t.0) is in record {
+      now = ap (at_time ended) moved.same ∙ sym (ap (λ (t : List (List ℕ) × PartsSoFar). t.1) is);
       parts = moved.parts;
       calls = omega (arith, moved.calls, long);
       few = omega (arith, moved.few, long);
@@ -125,9 +125,9 @@ may_then one other called mid count old between may first =
     let told = told_of old in
     let same : other (told_of between) ≡ other (one told).1 = ap other first.now in
     let long : length (other (told_of between)).0 ≡ length (other (one told).1).0 =
-    ap (λ (t : List (List ℕ) × Told). length t.0) same in
+    ap (λ (t : List (List ℕ) × PartsSoFar). length t.0) same in
     let time : (other (told_of between)).1.time ≡ (other (one told).1).1.time =
-    ap (λ (t : List (List ℕ) × Told). t.1.time) same in
+    ap (λ (t : List (List ℕ) × PartsSoFar). t.1.time) same in
     let all = length-append (one told).0 (other (one told).1).0 in record {
       parts = first.parts ∙ may.parts;
       calls = omega (arith, may.calls, first.calls, all, long);
@@ -137,10 +137,10 @@ may_then one other called mid count old between may first =
 
 -- ---- a line as a telling, with what it does to how far the walk is told
 
-abbrev pub lineup : (Told → List ℕ) → (Told → Told) → Telling
+abbrev pub lineup : (PartsSoFar → List ℕ) → (PartsSoFar → PartsSoFar) → Telling
 lineup line change told = (line told ∷ [], change told)
 
-pub lineup_told : (line : Told → List ℕ) (change : Told → Told) (called after : ℕ) (old between new : Progress)
+pub lineup_told : (line : PartsSoFar → List ℕ) (change : PartsSoFar → PartsSoFar) (called after : ℕ) (old between new : Progress)
     → held_by between ≡ held_by old → spent_in between ≤ spent_in old + 1
     → length between.parts.items ≡ length old.parts.items → told_of between ≡ change (told_of old)
     → HasMoved called after between new → HasTold called after old new (lineup line change (told_of old))
@@ -154,7 +154,7 @@ lineup_told line change called after old between new held spent parts is moved =
 
 -- ---- three tellings, of which the first is cut, or the second
 
-pub cut_first : (one other last : Telling) (told : Told) (old new : Option (List ℕ)) (sent : ℕ) (fault : WriteFault)
+pub cut_first : (one other last : Telling) (told : PartsSoFar) (old new : Option (List ℕ)) (sent : ℕ) (fault : WriteFault)
     (held after behind : List ℕ) → HasAdded old new sent held (Err fault) after (one told).0
     → HasAdded old new sent held (Err fault) behind (both (both one other) last told).0
 cut_first one other last told old new sent fault held after behind cut =
@@ -189,7 +189,7 @@ end_rounds each ended = lineup (λ _. end_rounds_line each ended) (at_time ended
 module _ (number : ℕ) (old begun : Progress) (told : told_of begun ≡ one_more number (told_of old))
     (page : begun.page ≡ old.page) (sent : begun.sent ≡ old.sent) where
   pub one_begun : begun.begun ≡ suc old.begun
-  one_begun = ap (λ (t : Told). t.begun) told
+  one_begun = ap (λ (t : PartsSoFar). t.begun) told
 
   held_same : held_by begun ≡ held_by old
   held_same = ap (λ (p : Page). text_of p) page
@@ -207,7 +207,7 @@ module _ (number : ℕ) (old begun : Progress) (told : told_of begun ≡ one_mor
   begun_told called after new parts moved =
       let calls : begun.page.calls ≡ old.page.calls = ap (λ (p : Page). p.calls) page in
       let long : length (held_by begun) ≡ length (held_by old) = ap (λ (xs : List ℕ). length xs) held_same in
-      lineup_told (λ (t : Told). part_line (suc t.begun)) (one_more number) called after old begun new held_same
+      lineup_told (λ (t : PartsSoFar). part_line (suc t.begun)) (one_more number) called after old begun new held_same
       (omega (arith, calls, long, sent, one_begun)) parts told moved
 
 -- nothing was told

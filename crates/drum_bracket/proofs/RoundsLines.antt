@@ -7,11 +7,11 @@ use Rattle.drum_walks.specs.Pieces.{PlacedHop}
 use Rattle.drum_lines.specs.declared.failed_write.WriteFault.{WriteFault}
 use Rattle.drum_lines.specs.Sent.{IsSent}
 use Rattle.drum_lines.proofs.Sending.{IsSent-cut, IsSent-then}
-use Rattle.drum_listing.specs.declared.moments.Moments.{Moments}
-use Rattle.drum_listing.specs.Moments.{later, moments_of}
-use Rattle.drum_listing.specs.MomentsText.{moments_text}
-use Rattle.drum_listing.specs.Pieces.{times_text}
-use Rattle.drum_listing.specs.WalkText.{hop_text}
+use Rattle.drum_hop_lines.specs.declared.moments.Moments.{Moments}
+use Rattle.drum_hop_lines.specs.Moments.{later, moments_of}
+use Rattle.drum_hop_lines.specs.MomentsText.{moments_text}
+use Rattle.drum_hop_lines.specs.Pieces.{times_text}
+use Rattle.drum_hop_lines.specs.WalkText.{hop_text}
 use Rattle.drum_bracket.specs.RoundsText.{again_line, end_rounds_line, from_to, placed_line}
 
 pub again_texts : (part begun ended : ℕ) (xs ys zs : List ℕ) → xs ≡ decimal part → ys ≡ decimal begun

@@ -11,32 +11,31 @@ use Rattle.indexmap.specs.IndexMap.{IndexMap, get}
 use Rattle.drum_core.specs.declared.op.Op.{Op}
 use Rattle.drum_core.specs.Numeral.{digits_of}
 use Rattle.drum_times.specs.declared.entry.Entry.{Entry}
-use Rattle.drum_order.proofs.Lists.{contains_at, contains_from_get, contains_here, contains_there}
+use Rattle.drum_order.proofs.Lists.{contains_at, contains_from_get, contains_here, contains_map, contains_there}
 use Rattle.drum_flow.specs.Walk.{Setting}
 use Rattle.drum_walks.specs.Visited.{Visited}
 use Rattle.drum_walks.specs.declared.piece.Piece.{Piece}
 use Rattle.drum_walks.specs.declared.piece.Piece.TheVariants as piece
 use Rattle.drum_walks.specs.declared.piece.Placed.{Placed}
 use Rattle.drum_walks.specs.Pieces.{seen_placed, spelled, PlacedHop}
-use Rattle.drum_bound.proofs.Lists.{contains_map}
 use Rattle.drum_rounds.specs.InRounds.{summed, takes}
 use Rattle.drum_rounds.specs.Order.{AreInOrder}
-use Rattle.drum_listing.specs.declared.waits.kind.Kind.{Kind}
-use Rattle.drum_listing.specs.declared.waits.sums.Sums.{Sums}
-use Rattle.drum_listing.specs.MomentsText.{moment_text}
-use Rattle.drum_listing.specs.Told.{seen_told}
-use Rattle.drum_listing.specs.Waits.{alike, data_at, for_data, for_instruction, is_alike, next_at, time_alike, time_of}
-use Rattle.drum_listing.specs.Waits.{AreDearestFirst, ComesBefore, IsFirst}
-use Rattle.drum_listing.specs.WaitsOf.{same_kind}
-use Rattle.drum_listing.specs.WaitsText.{kind_line, wait_line}
-use Rattle.drum_listing.specs.WalkText.{hop_text, way_text}
-use Rattle.drum_listing.proofs.DataAngles.{same_data_at}
-use Rattle.drum_listing.proofs.KindRows.{entry_of, key_at, one_place, AreDearest}
-use Rattle.drum_listing.proofs.LaterMoments.{at_once, data_at_once, next_at_once}
-use Rattle.drum_listing.proofs.Lines.{flat_map_map}
-use Rattle.drum_listing.proofs.NextAngles.{same_next_at}
-use Rattle.drum_listing.proofs.SameKinds.{alike_equiv, in_common, same_kind_equiv}
-use Rattle.drum_listing.proofs.WaitLines.{same_texts}
+use Rattle.drum_hop_lines.specs.declared.kind.Kind.{Kind}
+use Rattle.drum_hop_lines.specs.declared.sums.Sums.{Sums}
+use Rattle.drum_hop_lines.specs.MomentsText.{moment_text}
+use Rattle.drum_hop_lines.specs.TimedHop.{seen_timed}
+use Rattle.drum_hop_lines.specs.Waits.{alike, data_at, for_data, for_instruction, is_alike, next_at, time_alike, time_of}
+use Rattle.drum_hop_lines.specs.Waits.{AreDearestFirst, ComesBefore, IsFirst}
+use Rattle.drum_hop_lines.specs.KindsOf.{same_kind}
+use Rattle.drum_hop_lines.specs.WaitsText.{kind_line, wait_line}
+use Rattle.drum_hop_lines.specs.WalkText.{hop_text, way_text}
+use Rattle.drum_hop_lines.proofs.DataAngles.{same_data_at}
+use Rattle.drum_hop_lines.proofs.KindRows.{entry_of, key_at, one_place, AreDearest}
+use Rattle.drum_hop_lines.proofs.LaterMoments.{at_once, data_at_once, next_at_once}
+use Rattle.drum_hop_lines.proofs.Lines.{flat_map_map}
+use Rattle.drum_hop_lines.proofs.NextAngles.{same_next_at}
+use Rattle.drum_hop_lines.proofs.SameKinds.{alike_equiv, in_common, same_kind_equiv}
+use Rattle.drum_hop_lines.proofs.WaitLines.{same_texts}
 use Rattle.drum_bracket.specs.declared.waits.kind_row.KindRow.{KindRow}
 use Rattle.drum_bracket.specs.RoundsText.{from_to}
 use Rattle.drum_bracket.specs.RoundsWaitsOf.{is_of, kind_of, of_those, row_text, seen_kind}
@@ -96,10 +95,10 @@ number_in row = row.number
 -- ---- the first visit of a row's kind
 
 abbrev pub test : KindRow → Visited → Bool
-test row visit = is_alike (seen_told row.told) visit
+test row visit = is_alike (seen_timed row.told) visit
 
 abbrev pub first_visit : List Visited → KindRow → Visited
-first_visit visits row = first_of (test row) visits (seen_told row.told)
+first_visit visits row = first_of (test row) visits (seen_timed row.told)
 
 module _ (g : Setting) (angle : ℕ) (visits : List Visited) (pieces : List Piece) (often : List ℕ)
     (each : length often ≡ length pieces) (order : AreInOrder pieces)
@@ -111,7 +110,7 @@ module _ (g : Setting) (angle : ℕ) (visits : List Visited) (pieces : List Piec
     alone_hop = seen_placed its.one
 
     -- the kind is that of its hop
-    of_seen : is_alike seen (seen_told row.told) ≡ true
+    of_seen : is_alike seen (seen_timed row.told) ≡ true
     of_seen = ap (is_alike seen) its.told ∙ sym (tests (seen_placed its.one)) ∙ its.has
 
     -- a visit that its first piece's hop is
@@ -124,19 +123,19 @@ module _ (g : Setting) (angle : ℕ) (visits : List Visited) (pieces : List Piec
     passes_test : (at : ℕ) (visit : Visited) (hop : PlacedHop) → IsLaid g.times angle at visit hop
         → test row visit ≡ is hop
     passes_test at visit hop it =
-        alike_on seen (seen_told row.told) visit of_seen
+        alike_on seen (seen_timed row.told) visit of_seen
         ∙ same_kinds g.times angle at visit hop it seen ∙ sym (tests hop)
 
     pub head : IsHead (test row) visits (first_visit visits row)
     head =
-        head_is (test row) visits (seen_told row.told) some_visit.0 some_visit.1
+        head_is (test row) visits (seen_timed row.told) some_visit.0 some_visit.1
         (passes_test some_visit.2.0 some_visit.0 (seen_placed its.one) some_visit.2.1 ∙ its.has)
 
     -- the visits of its kind
     those : filter (test row) visits ≡ alike (first_visit visits row) visits
     those =
         ap (λ (t : Visited → Bool). filter t visits)
-        (λ j visit. alike_equiv.congr (seen_told row.told) (first_visit visits row) visit head.passes j)
+        (λ j visit. alike_equiv.congr (seen_timed row.told) (first_visit visits row) visit head.passes j)
 
     all_taken : (what : PlacedHop → ℕ) → summed what (take (length pieces) pieces) (take (length pieces) often)
         ≡ summed what pieces often
@@ -179,7 +178,7 @@ module _ (g : Setting) (angle : ℕ) (visits : List Visited) (pieces : List Piec
     -- what its hop's visit and the first have in common
     both : is_alike (first_visit visits row) some_visit.0 ≡ true
     both =
-        alike_on (seen_told row.told) (first_visit visits row) some_visit.0 head.passes
+        alike_on (seen_timed row.told) (first_visit visits row) some_visit.0 head.passes
         ∙ passes_test some_visit.2.0 some_visit.0 (seen_placed its.one) some_visit.2.1 ∙ its.has
 
     first_laid : (hop : PlacedHop) × Contains (spelled pieces) hop
@@ -189,7 +188,7 @@ module _ (g : Setting) (angle : ℕ) (visits : List Visited) (pieces : List Piec
         (subst (λ (vs : List Visited). Contains vs (first_visit visits row)) (sym head.split)
         (in_middle head.before head.after (first_visit visits row)))
 
-    alone_told : at_once some_visit.0 ≡ seen_told row.told
+    alone_told : at_once some_visit.0 ≡ seen_timed row.told
     alone_told =
         once_alone g.times angle some_visit.2.0 some_visit.0 (seen_placed its.one) some_visit.2.1 ∙ sym its.told
 
@@ -197,13 +196,13 @@ module _ (g : Setting) (angle : ℕ) (visits : List Visited) (pieces : List Piec
     at_its_angle =
         its.angle ∙ at_angle g.times angle some_visit.2.0 some_visit.0 (seen_placed its.one) some_visit.2.1
 
-    data_told : data_at g.times row.angle (seen_told row.told) ≡ data_at g.times angle (first_visit visits row)
+    data_told : data_at g.times row.angle (seen_timed row.told) ≡ data_at g.times angle (first_visit visits row)
     data_told =
         ap (data_at g.times row.angle) (sym alone_told)
         ∙ sym (data_at_once g.times angle row.angle some_visit.0 at_its_angle)
         ∙ sym (same_data_at g.times angle (first_visit visits row) some_visit.0 both)
 
-    next_told : next_at row.angle (seen_told row.told) ≡ next_at angle (first_visit visits row)
+    next_told : next_at row.angle (seen_timed row.told) ≡ next_at angle (first_visit visits row)
     next_told =
         let it = some_visit.2.1 in
         ap (next_at row.angle) (sym alone_told)
@@ -214,8 +213,8 @@ module _ (g : Setting) (angle : ℕ) (visits : List Visited) (pieces : List Piec
     -- its line is that of its kind
     pub its_line : row_text g.times row ≡ wait_line g.times angle visits (first_visit visits row)
     its_line =
-        same_line g.times row.angle angle (seen_told row.told) (first_visit visits row) row.sums.visits row.sums.time
-        row.sums.instruction row.sums.operand (alike_text (seen_told row.told) (first_visit visits row) head.passes)
+        same_line g.times row.angle angle (seen_timed row.told) (first_visit visits row) row.sums.visits row.sums.time
+        row.sums.instruction row.sums.operand (alike_text (seen_timed row.told) (first_visit visits row) head.passes)
         data_told next_told
         ∙ (λ j. kind_line g.times angle (first_visit visits row) (its_visits j) (its_time j) (its_instruction j)
         (its_data j))
@@ -227,7 +226,7 @@ module _ (g : Setting) (angle : ℕ) (visits : List Visited) (pieces : List Piec
       head.after,
       head.split,
       λ hop has.
-          alike_on (seen_told row.told) (first_visit visits row) hop head.passes ∙ head.none hop has,
+          alike_on (seen_timed row.told) (first_visit visits row) hop head.passes ∙ head.none hop has,
     )
 
   -- ---- the rows of all kinds
@@ -292,7 +291,7 @@ module _ (g : Setting) (angle : ℕ) (visits : List Visited) (pieces : List Piec
               contains_from_get (values_of rows.entries) place.0 row
                   (slice_get-map (λ (e : Kind × KindRow). e.1) rows.entries place.0
                   ∙ ap (option_map (λ (e : Kind × KindRow). e.1)) place.2),
-              alike_on (seen_told row.told) (first_visit visits row) hop passes
+              alike_on (seen_timed row.told) (first_visit visits row) hop passes
                   ∙ passes_test (is_of (kind_of one)) (seen_kind (kind_of one)) (λ h. refl) row row_is at hop
                   (seen_placed one) it
                   ∙ same_kind_equiv.refl (kind_of one),
@@ -320,8 +319,8 @@ module _ (g : Setting) (angle : ℕ) (visits : List Visited) (pieces : List Piec
         passes_test (is_of key) (seen_kind key) (λ h. refl) a one_is seen.2.0 seen.0 (seen_placed one_is.one) seen.2.1
         ∙ one_is.has in
         apart.earlier (first_visit visits a)
-        (subst (λ (vs : List Visited). Contains last.before (first_of (test a) vs (seen_told a.told))) (sym last.split)
-        (head_within (test a) last.before (first_visit visits b ∷ last.after) (seen_told a.told) seen.0 seen.1 so))
+        (subst (λ (vs : List Visited). Contains last.before (first_of (test a) vs (seen_timed a.told))) (sym last.split)
+        (head_within (test a) last.before (first_visit visits b ∷ last.after) (seen_timed a.told) seen.0 seen.1 so))
 
     -- rows of one piece are one
     one_piece : (i j : ℕ) (a b : KindRow) (key other : Kind) → slice_get rows.entries i ≡ Some (key, a)
@@ -396,11 +395,11 @@ module _ (g : Setting) (angle : ℕ) (visits : List Visited) (pieces : List Piec
             → is_alike (first_visit visits a) (first_visit visits b) ≡ true → i ≡ j
         one_kind i j a b key other p q one_is other_is so =
             let first : is_alike (seen_kind key) (first_visit visits a) ≡ true =
-            sym (alike_on (seen_kind key) (seen_told a.told) (first_visit visits a)
+            sym (alike_on (seen_kind key) (seen_timed a.told) (first_visit visits a)
             (of_seen (is_of key) (seen_kind key) (λ h. refl) a one_is))
             ∙ (head_at key a one_is).passes in
             let second : is_alike (seen_kind other) (first_visit visits b) ≡ true =
-            sym (alike_on (seen_kind other) (seen_told b.told) (first_visit visits b)
+            sym (alike_on (seen_kind other) (seen_timed b.told) (first_visit visits b)
             (of_seen (is_of other) (seen_kind other) (λ h. refl) b other_is))
             ∙ (head_at other b other_is).passes in
             one_place rows are.apart i j key other (key_at rows.entries i key a p) (key_at rows.entries j other b q)

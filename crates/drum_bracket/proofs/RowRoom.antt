@@ -4,8 +4,8 @@ use Rattle.std.proofs.Common.{refl, ap, ◌∙◌, arith, Some}
 use Rattle.std.specs.Prelude.{slice_get, slice_index, sum_by, Contains}
 use Rattle.std.proofs.lemmas.List.Sums.{sum_by-cons}
 use Rattle.std.proofs.lemmas.Option.{get_or_from_slice_get, slice_get_within}
-use Rattle.drum_deck.specs.declared.deck.Deck.{Deck}
 use Rattle.drum_core.specs.declared.op.Op.{Op}
+use Rattle.drum_deck.specs.declared.deck.Deck.{Deck}
 use Rattle.drum_times.specs.declared.entry.Entry.{Entry}
 use Rattle.drum_times.specs.declared.times.Times.{Times}
 use Rattle.drum_times.specs.Allowed.{Notes}
@@ -22,9 +22,9 @@ use Rattle.drum_rounds.specs.InRounds.{angle_of, lasting_of, often_of, pieces_of
 use Rattle.drum_rounds.specs.InRounds.{IsInRoundsOf}
 use Rattle.drum_rounds.proofs.OftenLaws.{all_ones, own}
 use Rattle.drum_rounds.proofs.SpelledLaws.{spelled_piece}
-use Rattle.drum_listing.specs.declared.waits.spent.Spent.{Spent}
-use Rattle.drum_listing.specs.declared.waits.sums.Sums.{Sums}
-use Rattle.drum_listing.specs.declared.waits.waited.Waited.{Waited}
+use Rattle.drum_hop_lines.specs.declared.spent.Spent.{Spent}
+use Rattle.drum_hop_lines.specs.declared.sums.Sums.{Sums}
+use Rattle.drum_hop_lines.specs.declared.waited.Waited.{Waited}
 use Rattle.drum_bracket.specs.declared.waits.kind_row.KindRow.{KindRow}
 use Rattle.drum_bracket.specs.RoundsWaitsOf.{of_those, waited_over, waits_cards, waits_data, waits_instruction, IsOfPiece, IsRow}
 use Rattle.drum_bracket.specs.SpelledOut.{placed_visit, AreSpelledOut}

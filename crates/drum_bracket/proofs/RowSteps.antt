@@ -14,11 +14,11 @@ use Rattle.drum_walks.specs.declared.piece.Placed.{Placed}
 use Rattle.drum_walks.specs.Pieces.{seen_placed, PlacedHop}
 use Rattle.drum_rounds.specs.InRounds.{summed, takes}
 use Rattle.drum_rounds.proofs.OftenLaws.{own, summed_more}
-use Rattle.drum_listing.specs.declared.waits.kind.Kind.{Kind}
-use Rattle.drum_listing.specs.declared.waits.sums.Sums.{Sums}
-use Rattle.drum_listing.specs.Told.{seen_told}
-use Rattle.drum_listing.specs.WaitsOf.{same_kind}
-use Rattle.drum_listing.proofs.SameKinds.{alike_equiv, same_kind_equiv}
+use Rattle.drum_hop_lines.specs.declared.kind.Kind.{Kind}
+use Rattle.drum_hop_lines.specs.declared.sums.Sums.{Sums}
+use Rattle.drum_hop_lines.specs.TimedHop.{seen_timed}
+use Rattle.drum_hop_lines.specs.KindsOf.{same_kind}
+use Rattle.drum_hop_lines.proofs.SameKinds.{alike_equiv, same_kind_equiv}
 use Rattle.drum_bracket.specs.declared.waits.kind_row.KindRow.{KindRow}
 use Rattle.drum_bracket.specs.RoundsText.{from_to}
 use Rattle.drum_bracket.specs.RoundsWaitsOf.{is_of, kind_of, of_those, seen_kind, waits_data}
@@ -196,7 +196,7 @@ module _ (times : Op → Entry) (pieces : List Piece) (often : List ℕ) (each :
       here = ap (slice_get pieces) number ∙ are.here;
       has = are.has;
       first = λ k other less at. are.first k other (omega (arith, less, number)) at;
-      told = ap seen_told told ∙ are.told;
+      told = ap seen_timed told ∙ are.told;
       angle = angle ∙ are.angle;
       sums = same_sums _ _
           (more (λ _. 1) before.sums.visits row.sums.visits joined.sums.visits (ap (λ (s : Sums). s.visits) are.sums)

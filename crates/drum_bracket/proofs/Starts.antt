@@ -15,7 +15,7 @@ use Rattle.drum_bracket.specs.declared.progress.Progress.{Progress}
 use Rattle.drum_bracket.specs.declared.teller.Teller.{Teller}
 use Rattle.drum_bracket.specs.OutlineOf.{IsWalkWith}
 use Rattle.drum_bracket.specs.ProgressOf.{held_by, told_of, HasAdded, HasTold, MayTell}
-use Rattle.drum_bracket.specs.RoundsText.{joined, tell, Told}
+use Rattle.drum_bracket.specs.RoundsText.{joined, tell, PartsSoFar}
 use Rattle.drum_bracket.specs.TellerOf.{named_told, pieces_in}
 use Rattle.drum_bracket.proofs.LineCounts.{lines_few}
 use Rattle.drum_bracket.proofs.Tellings.{at_start, whole_lasts, whole_told}
@@ -99,7 +99,7 @@ cost_few t old new count last called after long is begun time parts held sent ca
     let lines : length (named_told t count last (told_of old)).0 ≤ 2 ^ 36 =
     omega (
       arith,
-      ap (λ (x : List (List ℕ) × Told). length x.0) (all_told t old count last long is begun time parts),
+      ap (λ (x : List (List ℕ) × PartsSoFar). length x.0) (all_told t old count last long is begun time parts),
       few_lines t.times.now t.walk.now right,
     ) in
     let none : length (held_by old) ≡ 0 = ap (λ (xs : List ℕ). length xs) held in

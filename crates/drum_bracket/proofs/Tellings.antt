@@ -24,7 +24,7 @@ use Rattle.drum_bracket.specs.declared.teller.Teller.{Teller}
 use Rattle.drum_bracket.specs.RoundsText.{again_line, at_time, both, end_rounds_line, first_place, is_part}
 use Rattle.drum_bracket.specs.RoundsText.{last_place, part_again, rounds_line}
 use Rattle.drum_bracket.specs.RoundsText.{one_more, placed_line, tell, tell_behind, tell_by, tell_named, tell_one}
-use Rattle.drum_bracket.specs.RoundsText.{tell_part, tell_rounds, tell_row, Telling, Told}
+use Rattle.drum_bracket.specs.RoundsText.{tell_part, tell_rounds, tell_row, Telling, PartsSoFar}
 use Rattle.drum_bracket.proofs.Passing.{begin_rounds, end_rounds}
 use Rattle.drum_bracket.specs.declared.progress.Progress.{Progress}
 use Rattle.drum_bracket.specs.ProgressOf.{told_of}
@@ -86,7 +86,7 @@ module _ (times : Op → Entry) (pieces : List Piece) where
 -- ---- how pieces are told
 
 -- nothing is told of a piece that isn't below the limit
-pub named_beyond : (t : Teller) (limit number : ℕ) (told : Told) → limit ≤ length (pieces_in t) → limit ≤ number
+pub named_beyond : (t : Teller) (limit number : ℕ) (told : PartsSoFar) → limit ≤ length (pieces_in t) → limit ≤ number
     → named_told t limit number told ≡ ([], told)
 unfolding named_told tellings
 named_beyond t limit number told within low =
@@ -97,7 +97,7 @@ named_beyond t limit number told within low =
     (omega (arith, behind_long times all [] (take limit all), long_taken all limit within, low)) in
     ap (λ (o : Option Telling). tell_one (is_part all number) number o told) none
 
-module _ (t : Teller) (limit number : ℕ) (one : Piece) (told : Told) (less : number < limit)
+module _ (t : Teller) (limit number : ℕ) (one : Piece) (told : PartsSoFar) (less : number < limit)
     (at : slice_get (pieces_in t) number ≡ Some one) where
   found : named_told t limit number told
       ≡ tell_one (is_part (pieces_in t) number) number (Some (piece_told t number one)) told
@@ -116,50 +116,50 @@ module _ (t : Teller) (limit number : ℕ) (one : Piece) (told : Told) (less : n
       found ∙ ap (λ (b : Bool). tell_one b number (Some (piece_told t number one)) told) is
       ∙ ap (λ (o : Option ℕ). tell_part number o (piece_told t number one) told) begun
 
-pub hop_told : (t : Teller) (number : ℕ) (one : Placed) (told : Told)
+pub hop_told : (t : Teller) (number : ℕ) (one : Placed) (told : PartsSoFar)
     → piece_told t number (piece.Hop one) told
     ≡ (let ended = told.time + takes (entry_in t.times.now) (seen_placed one) in
     (placed_line (entry_in t.times.now) told.time ended (seen_placed one) ∷ [], at_time ended told))
 unfolding piece_told
 hop_told t number one told = refl
 
-pub row_piece : (t : Teller) (number : ℕ) (names : Vec ℕ Global) (told : Told)
+pub row_piece : (t : Teller) (number : ℕ) (names : Vec ℕ Global) (told : PartsSoFar)
     → piece_told t number (piece.Row names) told ≡ row_told t number names.items told
 unfolding piece_told row_told named_told
 row_piece t number names told = refl
 
-pub row_is_told : (t : Teller) (number : ℕ) (one : Piece) (names : Vec ℕ Global) (read : List ℕ) (told : Told)
+pub row_is_told : (t : Teller) (number : ℕ) (one : Piece) (names : Vec ℕ Global) (read : List ℕ) (told : PartsSoFar)
     → one ≡ piece.Row names → read ≡ names.items → piece_told t number one told ≡ row_told t number read told
 row_is_told t number one names read told is same =
     ap (λ (p : Piece). piece_told t number p told) is ∙ row_piece t number names told
     ∙ sym (ap (λ (ns : List ℕ). row_told t number ns told) same)
 
-pub rounds_told : (t : Teller) (number : ℕ) (rounds : Rounds) (told : Told)
+pub rounds_told : (t : Teller) (number : ℕ) (rounds : Rounds) (told : PartsSoFar)
     → piece_told t number (piece.Rounds rounds) told
     ≡ tell_rounds rounds.times (spelled_of (pieces_in t) rounds.piece) (named_told t number rounds.piece) told
 unfolding piece_told named_told
 rounds_told t number rounds told = refl
 
-pub row_none : (t : Teller) (limit : ℕ) (told : Told) → row_told t limit [] told ≡ ([], told)
+pub row_none : (t : Teller) (limit : ℕ) (told : PartsSoFar) → row_told t limit [] told ≡ ([], told)
 unfolding row_told
 row_none t limit told = refl
 
-rows_split : (tell : ℕ → Telling) (xs ys : List ℕ) (told : Told)
+rows_split : (tell : ℕ → Telling) (xs ys : List ℕ) (told : PartsSoFar)
     → tell_row tell (xs ++ ys) told ≡ both (tell_row tell xs) (tell_row tell ys) told
 rows_split tell [] ys told = refl
 rows_split tell (x ∷ xs) ys told =
     let first = tell x told in
     let others = tell_row tell xs first.1 in
     let last = tell_row tell ys others.1 in
-    ap (λ (t : List (List ℕ) × Told). (first.0 ++ t.0, t.1)) (rows_split tell xs ys first.1)
+    ap (λ (t : List (List ℕ) × PartsSoFar). (first.0 ++ t.0, t.1)) (rows_split tell xs ys first.1)
     ∙ ap (λ (lines : List (List ℕ)). (lines, last.1)) (sym (append_assoc first.0 others.0 last.0))
 
-pub row_split : (t : Teller) (limit : ℕ) (xs ys : List ℕ) (told : Told)
+pub row_split : (t : Teller) (limit : ℕ) (xs ys : List ℕ) (told : PartsSoFar)
     → row_told t limit (xs ++ ys) told ≡ both (row_told t limit xs) (row_told t limit ys) told
 unfolding row_told
 row_split t limit xs ys told = rows_split (named_told t limit) xs ys told
 
-pub row_one : (t : Teller) (limit number : ℕ) (numbers : List ℕ) (told : Told)
+pub row_one : (t : Teller) (limit number : ℕ) (numbers : List ℕ) (told : PartsSoFar)
     → row_told t limit (number ∷ numbers) told ≡ both (named_told t limit number) (row_told t limit numbers) told
 unfolding row_told
 row_one t limit number numbers told = refl
@@ -171,7 +171,7 @@ some_same e = cc
 
 -- a telling takes so long
 abbrev pub Lasts : Telling → ℕ → Type 0
-Lasts tell time = (told : Told) → (tell told).1.time ≡ told.time + time
+Lasts tell time = (told : PartsSoFar) → (tell told).1.time ≡ told.time + time
 
 -- each takes as long as what its piece spells out
 pub record AreLasting (times : Op → Entry) (before : List Telling) (spells : List (List PlacedHop)) : Type 0 where
@@ -291,7 +291,7 @@ module _ (t : Teller) where
       (take limit (pieces_in t))
 
   -- the time goes on
-  pub named_later : (limit number : ℕ) (told : Told) → told.time ≤ (named_told t limit number told).1.time
+  pub named_later : (limit number : ℕ) (told : PartsSoFar) → told.time ≤ (named_told t limit number told).1.time
   unfolding named_told
   named_later limit number told =
       omega (
@@ -300,18 +300,18 @@ module _ (t : Teller) where
             (spelled_behind [] (take limit (pieces_in t))) (lasting limit) number told,
       )
 
-  pub row_later : (limit : ℕ) (numbers : List ℕ) (told : Told) → told.time ≤ (row_told t limit numbers told).1.time
-  row_later limit [] told = omega (arith, ap (λ (x : List (List ℕ) × Told). x.1.time) (row_none t limit told))
+  pub row_later : (limit : ℕ) (numbers : List ℕ) (told : PartsSoFar) → told.time ≤ (row_told t limit numbers told).1.time
+  row_later limit [] told = omega (arith, ap (λ (x : List (List ℕ) × PartsSoFar). x.1.time) (row_none t limit told))
   row_later limit (number ∷ numbers) told =
       omega (
         arith,
-        ap (λ (x : List (List ℕ) × Told). x.1.time) (row_one t limit number numbers told),
+        ap (λ (x : List (List ℕ) × PartsSoFar). x.1.time) (row_one t limit number numbers told),
         named_later limit number told,
         row_later limit numbers (named_told t limit number told).1,
       )
 
   -- a piece takes as long as is known of it
-  pub piece_lasts : (number : ℕ) (one : Piece) (told : Told) → IsTeller t → slice_get (pieces_in t) number ≡ Some one
+  pub piece_lasts : (number : ℕ) (one : Piece) (told : PartsSoFar) → IsTeller t → slice_get (pieces_in t) number ≡ Some one
       → (piece_told t number one told).1.time ≡ told.time + slice_index (lasts_of t) number
   unfolding piece_told
   piece_lasts number one told is at =
@@ -326,7 +326,7 @@ module _ (t : Teller) where
       ∙ ap (λ (n : ℕ). told.time + n) (sym (is.lasts number within))
 
   -- a hop, by how long it takes
-  pub hop_is_told : (number : ℕ) (one : Placed) (took : ℕ) (told : Told) → IsTeller t
+  pub hop_is_told : (number : ℕ) (one : Placed) (took : ℕ) (told : PartsSoFar) → IsTeller t
       → slice_get (pieces_in t) number ≡ Some (piece.Hop one) → took ≡ slice_index (lasts_of t) number
       → piece_told t number (piece.Hop one) told
       ≡ (
@@ -335,13 +335,13 @@ module _ (t : Teller) where
       )
   hop_is_told number one took told is at so =
       let ended : told.time + takes (entry_in t.times.now) (seen_placed one) ≡ told.time + took =
-      sym (ap (λ (x : List (List ℕ) × Told). x.1.time) (hop_told t number one told))
+      sym (ap (λ (x : List (List ℕ) × PartsSoFar). x.1.time) (hop_told t number one told))
       ∙ piece_lasts number (piece.Hop one) told is at ∙ ap (λ (n : ℕ). told.time + n) (sym so) in
       hop_told t number one told
       ∙ ap (λ (n : ℕ). (placed_line (entry_in t.times.now) told.time n (seen_placed one) ∷ [], at_time n told)) ended
 
   -- a part that comes again
-  pub again_is_told : (number part : ℕ) (one : Piece) (took : ℕ) (told : Told) → IsTeller t
+  pub again_is_told : (number part : ℕ) (one : Piece) (took : ℕ) (told : PartsSoFar) → IsTeller t
       → slice_get (pieces_in t) number ≡ Some one → took ≡ slice_index (lasts_of t) number
       → part_again part (piece_told t number one) told
       ≡ (again_line part told.time (told.time + took) ∷ [], at_time (told.time + took) told)
@@ -363,7 +363,7 @@ part_read parts number read part less is same = sym (get_or_read parts number re
 -- ---- rounds
 
 -- a line, what is told once, and a line
-pub rounds_split : (t : Teller) (limit : ℕ) (rounds : Rounds) (told : Told) (each ended : ℕ)
+pub rounds_split : (t : Teller) (limit : ℕ) (rounds : Rounds) (told : PartsSoFar) (each ended : ℕ)
     → each ≡ (named_told t limit rounds.piece told).1.time - told.time → ended ≡ told.time + rounds.times * each
     → piece_told t limit (piece.Rounds rounds) told
     ≡ both (both (begin_rounds rounds.times (last_place (spelled_of (pieces_in t) rounds.piece))
@@ -391,14 +391,14 @@ pub rounds_each : (t : Teller) (limit : ℕ) (rounds : Rounds) (old between late
     → told_of between ≡ told_of old → told_of later ≡ (named_told t limit rounds.piece (told_of between)).1
     → each ≡ later.time - old.time → each ≡ (named_told t limit rounds.piece (told_of old)).1.time - old.time
 rounds_each t limit rounds old between later each same now is =
-    is ∙ ap (λ (u : Told). u.time - old.time) (now ∙ ap (λ (u : Told). (named_told t limit rounds.piece u).1) same)
+    is ∙ ap (λ (u : PartsSoFar). u.time - old.time) (now ∙ ap (λ (u : PartsSoFar). (named_told t limit rounds.piece u).1) same)
 
 pub rounds_fit : (t : Teller) (limit : ℕ) (rounds : Rounds) (old between later : Progress) (count each : ℕ)
     → told_of between ≡ told_of old → told_of later ≡ (named_told t limit rounds.piece (told_of between)).1
     → count ≡ rounds.times → each ≡ later.time - old.time
     → (piece_told t limit (piece.Rounds rounds) (told_of old)).1.time ≡ old.time + count * each
 rounds_fit t limit rounds old between later count each same now often is =
-    ap (λ (x : List (List ℕ) × Told). x.1.time)
+    ap (λ (x : List (List ℕ) × PartsSoFar). x.1.time)
     (rounds_split t limit rounds (told_of old) each (old.time + rounds.times * each)
     (rounds_each t limit rounds old between later each same now is) refl)
     ∙ ap (λ (n : ℕ). old.time + n * each) (sym often)
@@ -406,7 +406,7 @@ rounds_fit t limit rounds old between later count each same now often is =
 -- ---- pieces in a row
 
 -- those so far, this one, and the others
-pub row_at : (t : Teller) (limit : ℕ) (names : List ℕ) (i : ℕ) (told : Told) → i < length names
+pub row_at : (t : Teller) (limit : ℕ) (names : List ℕ) (i : ℕ) (told : PartsSoFar) → i < length names
     → row_told t limit names told
     ≡ both (row_told t limit (take i names)) (both (named_told t limit (get_or names i 0)) (row_told t limit (drop (i + 1) names)))
     told
@@ -417,10 +417,10 @@ row_at t limit names i told less =
     ap (λ (ns : List ℕ). row_told t limit ns told)
     (sym (take-append-drop i names) ∙ at_drop_more (λ (ns : List ℕ). take i names ++ ns) names i 0 less)
     ∙ row_split t limit (take i names) (here ∷ others) told
-    ∙ ap (λ (x : List (List ℕ) × Told). (first.0 ++ x.0, x.1)) (row_one t limit here others first.1)
+    ∙ ap (λ (x : List (List ℕ) × PartsSoFar). (first.0 ++ x.0, x.1)) (row_one t limit here others first.1)
 
 -- one more
-pub row_more : (t : Teller) (limit : ℕ) (names : List ℕ) (i : ℕ) (told : Told) → i < length names
+pub row_more : (t : Teller) (limit : ℕ) (names : List ℕ) (i : ℕ) (told : PartsSoFar) → i < length names
     → row_told t limit (take (i + 1) names) told
     ≡ both (row_told t limit (take i names)) (named_told t limit (get_or names i 0)) told
 row_more t limit names i told less =
@@ -429,11 +429,11 @@ row_more t limit names i told less =
     let next = named_told t limit here first.1 in
     ap (λ (ns : List ℕ). row_told t limit ns told) (take_more names i 0 less)
     ∙ row_split t limit (take i names) (here ∷ []) told
-    ∙ ap (λ (x : List (List ℕ) × Told). (first.0 ++ x.0, x.1))
-    (row_one t limit here [] first.1 ∙ ap (λ (x : List (List ℕ) × Told). (next.0 ++ x.0, x.1)) (row_none t limit next.1))
+    ∙ ap (λ (x : List (List ℕ) × PartsSoFar). (first.0 ++ x.0, x.1))
+    (row_one t limit here [] first.1 ∙ ap (λ (x : List (List ℕ) × PartsSoFar). (next.0 ++ x.0, x.1)) (row_none t limit next.1))
     ∙ ap (λ (xs : List (List ℕ)). (first.0 ++ xs, next.1)) (append-nil next.0)
 
-pub row_all : (t : Teller) (limit : ℕ) (names : List ℕ) (i : ℕ) (told : Told) → length names ≤ i
+pub row_all : (t : Teller) (limit : ℕ) (names : List ℕ) (i : ℕ) (told : PartsSoFar) → length names ≤ i
     → row_told t limit (take i names) told ≡ row_told t limit names told
 row_all t limit names i told low = ap (λ (ns : List ℕ). row_told t limit ns told) (take_all i names low)
 
@@ -467,7 +467,7 @@ at_start progress count begun time parts =
       time = time i;
     }
 
-pub whole_told : (t : Teller) (count last : ℕ) (told : Told) → count ≡ length (pieces_in t) → last ≡ count - 1
+pub whole_told : (t : Teller) (count last : ℕ) (told : PartsSoFar) → count ≡ length (pieces_in t) → last ≡ count - 1
     → told ≡ record { begun = 0; part = λ _. None; time = 0 }
     → named_told t count last told ≡ tell (entry_in t.times.now) (pieces_in t)
 unfolding named_told tellings

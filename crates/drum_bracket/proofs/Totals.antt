@@ -14,7 +14,7 @@ use Rattle.drum_walks.specs.Visited.{visited, AreLongest}
 use Rattle.drum_walks.specs.declared.piece.Piece.{Piece}
 use Rattle.drum_walks.specs.Pieces.{placed, spelled}
 use Rattle.drum_rounds.specs.InRounds.{takes, SpellOut}
-use Rattle.drum_listing.proofs.AddingUp.{follow}
+use Rattle.drum_hop_lines.proofs.AddingUp.{follow}
 
 -- so many revolutions later
 longest_rounds : (times : Op → Entry) (place : ℕ) (ins : Instruction) (way : Way) (clock count : ℕ)

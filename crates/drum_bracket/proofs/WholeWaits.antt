@@ -11,10 +11,10 @@ use Rattle.drum_walks.specs.declared.piece.Placed.{Placed}
 use Rattle.drum_walks.specs.Pieces.{seen_placed, PlacedHop}
 use Rattle.drum_rounds.specs.InRounds.{summed}
 use Rattle.drum_rounds.proofs.OftenLaws.{own}
-use Rattle.drum_listing.specs.declared.waits.spent.Spent.{Spent}
-use Rattle.drum_listing.specs.declared.waits.waited.Waited.{Waited}
-use Rattle.drum_listing.specs.Waits.{for_cards, for_data, for_instruction}
-use Rattle.drum_listing.specs.WaitsOf.{waited_of}
+use Rattle.drum_hop_lines.specs.declared.spent.Spent.{Spent}
+use Rattle.drum_hop_lines.specs.declared.waited.Waited.{Waited}
+use Rattle.drum_hop_lines.specs.Waits.{for_cards, for_data, for_instruction}
+use Rattle.drum_hop_lines.specs.KindsOf.{waited_of}
 use Rattle.drum_bracket.specs.RoundsWaitsOf.{waited_over, waits_cards, waits_data, waits_instruction}
 use Rattle.drum_bracket.proofs.KindSums.{all_laid, same_cards, same_data, same_instruction}
 use Rattle.drum_bracket.proofs.Laid.{AreLaid}

@@ -3,11 +3,11 @@ use Rattle.std.specs.Prelude.{◌≡◌, ℕ, ◌+◌, ◌*◌, ◌^◌, ◌<◌
 use Rattle.std.specs.Prelude.{None, Result, Ok, Err}
 use Rattle.drum_lines.specs.declared.failed_write.WriteFault.{WriteFault}
 use Rattle.drum_lines.specs.Sent.{IsSent}
-use Rattle.drum_listing.specs.Page.{text_of, HasPassed}
+use Rattle.drum_hop_lines.specs.Page.{text_of, HasPassed}
 use Rattle.drum_bracket.specs.declared.progress.Progress.{Progress}
-use Rattle.drum_bracket.specs.RoundsText.{joined, Told}
+use Rattle.drum_bracket.specs.RoundsText.{joined, PartsSoFar}
 
-abbrev pub told_of : Progress → Told
+abbrev pub told_of : Progress → PartsSoFar
 told_of progress = record {
   begun = progress.begun;
   part = λ number. get_or progress.parts.items number None;
@@ -54,7 +54,7 @@ pub record HasMoved (called after : ℕ) (old new : Progress) : Type 0 where
   pub few : spent_in new ≤ spent_in old + 2000
 
 -- There is room for all that is told, and no moment is too late.
-pub record MayTell (called count : ℕ) (progress : Progress) (told : List (List ℕ) × Told)
+pub record MayTell (called count : ℕ) (progress : Progress) (told : List (List ℕ) × PartsSoFar)
     : Type 0 where
   pub parts : length progress.parts.items ≡ count
   pub calls : called + length (held_by progress) + 1000 * length told.0 ≤ 2 ^ 62 + 2 ^ 60
@@ -62,7 +62,7 @@ pub record MayTell (called count : ℕ) (progress : Progress) (told : List (List
   pub fits : told.1.time < 2 ^ 127
 
 -- It was told.
-pub record HasTold (called after : ℕ) (old new : Progress) (told : List (List ℕ) × Told)
+pub record HasTold (called after : ℕ) (old new : Progress) (told : List (List ℕ) × PartsSoFar)
     : Type 0 where
   pub now : told_of new ≡ told.1
   pub parts : length new.parts.items ≡ length old.parts.items

@@ -15,9 +15,9 @@ use Rattle.drum_walks.specs.Pieces.{named, seen_placed, spelled_of, PlacedHop}
 use Rattle.drum_rounds.specs.InRounds as walks
 use Rattle.drum_rounds.specs.InRounds.{takes}
 use Rattle.drum_ceiling.specs.declared.bracket.Bracket.{Bracket}
-use Rattle.drum_listing.specs.Moments.{later, moments_of}
-use Rattle.drum_listing.specs.MomentsText.{moments_text}
-use Rattle.drum_listing.specs.WalkText.{hop_text}
+use Rattle.drum_hop_lines.specs.Moments.{later, moments_of}
+use Rattle.drum_hop_lines.specs.MomentsText.{moments_text}
+use Rattle.drum_hop_lines.specs.WalkText.{hop_text}
 use Rattle.drum_bracket.specs.CeilingText.{bracket_lines}
 
 -- ---- a hop
@@ -79,17 +79,17 @@ is_part pieces number =
     && nat_lt 1 (length (filter (λ other. other == number) (flat_map named pieces)))
 
 -- how many parts have begun, the number of each, by that of its piece, and the word times used
-pub record Told : Type 0 where
+pub record PartsSoFar : Type 0 where
   pub begun : ℕ
   pub part : ℕ → Option ℕ
   pub time : ℕ
 
 -- lines, and how far the walk is told then
 abbrev pub Telling : Type 0
-Telling = Told → List (List ℕ) × Told
+Telling = PartsSoFar → List (List ℕ) × PartsSoFar
 
 -- a line before and one behind
-abbrev pub between : List ℕ → List (List ℕ) × Told → List ℕ → List (List ℕ) × Told
+abbrev pub between : List ℕ → List (List ℕ) × PartsSoFar → List ℕ → List (List ℕ) × PartsSoFar
 between first told last = (first ∷ told.0 ++ last ∷ [], told.1)
 
 -- one and then the other
@@ -102,11 +102,11 @@ abbrev pub nothing : Telling
 nothing told = ([], told)
 
 -- the same, with so many word times used
-abbrev pub at_time : ℕ → Told → Told
+abbrev pub at_time : ℕ → PartsSoFar → PartsSoFar
 at_time time told = record { begun = told.begun; part = told.part; time = time }
 
 -- one part more has begun: the piece with this number
-abbrev pub one_more : ℕ → Told → Told
+abbrev pub one_more : ℕ → PartsSoFar → PartsSoFar
 one_more number told = record {
   begun = suc told.begun;
   part = λ other. if other == number then Some (suc told.begun) else told.part other;
@@ -185,7 +185,7 @@ tell_behind times pieces before (one ∷ others) =
     tell_behind times pieces (before ++ tell_by times pieces before one ∷ []) others
 
 -- the whole, which is the last of them, from the beginning
-abbrev pub tell : (Op → Entry) → List Piece → List (List ℕ) × Told
+abbrev pub tell : (Op → Entry) → List Piece → List (List ℕ) × PartsSoFar
 tell times pieces =
     tell_named pieces (tell_behind times pieces [] pieces) (length pieces - 1)
     (record { begun = 0; part = λ _. None; time = 0 })

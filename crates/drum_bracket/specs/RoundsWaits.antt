@@ -5,7 +5,7 @@ use Rattle.drum_times.specs.declared.entry.Entry.{Entry}
 use Rattle.drum_walks.specs.Visited.{Visited}
 use Rattle.drum_rounds.specs.InRounds as walks
 use Rattle.drum_ceiling.specs.declared.bracket.Bracket.{Bracket}
-use Rattle.drum_listing.specs.WaitsText.{wait_line, walk_line}
+use Rattle.drum_hop_lines.specs.WaitsText.{wait_line, walk_line}
 use Rattle.drum_bracket.specs.CeilingText.{bracket_lines}
 
 -- The lines of all kinds of hops of the walk beside a ceiling, each by its first, the line of all

@@ -16,14 +16,14 @@ use Rattle.drum_rounds.specs.declared.in_rounds.InRounds.{InRounds}
 use Rattle.drum_rounds.specs.InRounds as walks
 use Rattle.drum_rounds.specs.InRounds.{summed, takes}
 use Rattle.drum_ceiling.specs.declared.bracket.Bracket.{Bracket}
-use Rattle.drum_listing.specs.declared.waits.kind.Kind.{Kind}
-use Rattle.drum_listing.specs.declared.waits.sums.Sums.{Sums}
-use Rattle.drum_listing.specs.declared.waits.waited.Waited.{Waited}
-use Rattle.drum_listing.specs.Told.{seen_told}
-use Rattle.drum_listing.specs.Waits.{for_cards, for_data, for_instruction, is_alike}
-use Rattle.drum_listing.specs.Waits.{AreDearestFirst}
-use Rattle.drum_listing.specs.WaitsOf.{same_kind, waited_line, waited_of}
-use Rattle.drum_listing.specs.WaitsText.{kind_line, wait_line}
+use Rattle.drum_hop_lines.specs.declared.kind.Kind.{Kind}
+use Rattle.drum_hop_lines.specs.declared.sums.Sums.{Sums}
+use Rattle.drum_hop_lines.specs.declared.waited.Waited.{Waited}
+use Rattle.drum_hop_lines.specs.TimedHop.{seen_timed}
+use Rattle.drum_hop_lines.specs.Waits.{for_cards, for_data, for_instruction, is_alike}
+use Rattle.drum_hop_lines.specs.Waits.{AreDearestFirst}
+use Rattle.drum_hop_lines.specs.KindsOf.{same_kind, waited_line, waited_of}
+use Rattle.drum_hop_lines.specs.WaitsText.{kind_line, wait_line}
 use Rattle.drum_bracket.specs.declared.waits.WaitsInRounds.{WaitsInRounds}
 use Rattle.drum_bracket.specs.declared.waits.kind_row.KindRow.{KindRow}
 use Rattle.drum_bracket.specs.CeilingText.{bracket_lines}
@@ -101,7 +101,7 @@ pub record IsRow (times : Op → Entry) (pieces : List Piece) (often : List ℕ)
   pub here : slice_get pieces row.number ≡ Some (piece.Hop one)
   pub has : is (seen_placed one) ≡ true
   pub first : AreNoneBelow is pieces row.number
-  pub told : seen_told row.told ≡ alone times (seen_placed one)
+  pub told : seen_timed row.told ≡ alone times (seen_placed one)
   pub angle : row.angle ≡ one.angle
   pub sums : row.sums ≡ sums_over times is (take limit pieces) (take limit often)
 
@@ -123,7 +123,7 @@ pub record AreRows {S : Type 0} (times : Op → Entry) (pieces : List Piece) (of
 pub record IsOfPiece (times : Op → Entry) (often : List ℕ) (at : ℕ) (one : Placed)
     (row : KindRow) : Type 0 where
   pub number : row.number ≡ at
-  pub told : seen_told row.told ≡ alone times (seen_placed one)
+  pub told : seen_timed row.told ≡ alone times (seen_placed one)
   pub angle : row.angle ≡ one.angle
   pub visits : row.sums.visits ≡ slice_index often at
   pub time : row.sums.time ≡ slice_index often at * takes times (seen_placed one)
@@ -145,7 +145,7 @@ waited_over times pieces often = record {
 -- the line of a row
 abbrev pub row_text : (Op → Entry) → KindRow → List ℕ
 row_text times row =
-    kind_line times row.angle (seen_told row.told) row.sums.visits row.sums.time
+    kind_line times row.angle (seen_timed row.told) row.sums.visits row.sums.time
     row.sums.instruction row.sums.operand
 
 -- the rows, in their order

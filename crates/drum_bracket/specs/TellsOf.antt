@@ -3,7 +3,7 @@ use Rattle.std.specs.Prelude.{◌≡◌, ℕ, ◌+◌, ◌*◌, ◌<◌, ◌≤�
 use Rattle.drum_core.specs.declared.op.Op.{Op}
 use Rattle.drum_times.specs.declared.entry.Entry.{Entry}
 use Rattle.drum_walks.specs.Visited.{Visited}
-use Rattle.drum_listing.specs.WalkText.{visit_line}
+use Rattle.drum_hop_lines.specs.WalkText.{visit_line}
 use Rattle.drum_bracket.specs.RoundsText.{again_line, end_line, end_rounds_line, part_line}
 use Rattle.drum_bracket.specs.RoundsText.{rounds_line}
 

@@ -6,8 +6,8 @@ ghost use Rattle.drum_walks.specs.Pieces.{seen_placed};
 ghost use Rattle.drum_bracket.specs.RoundsText.{placed_line};
 
 use drum_devices::Output;
+use drum_hop_lines::{Line, Moments, TimedHop, send_hop, send_times_later};
 use drum_lines::WriteFault;
-use drum_listing::{Line, Moments, Told, send_hop, send_times_later};
 use drum_times::Times;
 use drum_walks::Placed;
 
@@ -26,7 +26,7 @@ impl Line for HopLine<'_> {
         (seen_placed line.one) };
 
     fn send<O: Output>(&self, writer: &mut O, sent: usize) -> Result<usize, WriteFault> {
-        let told = Told {
+        let told = TimedHop {
             place: self.one.location,
             instruction: self.one.hop.instruction,
             way: self.one.hop.way,

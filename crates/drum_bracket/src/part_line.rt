@@ -1,14 +1,14 @@
 //! The other lines of a walk in rounds.
 
 ghost use Rattle.std.specs.Prelude.{◌≡◌, ◌+◌, ◌^◌, ◌≤◌, IfOk};
-ghost use Rattle.drum_lines.specs.Sent.{IsSent, fails_by};
+ghost use Rattle.drum_lines.specs.Sent.{IsSent, failed_writes};
 ghost use Rattle.drum_bracket.specs.RoundsText.{again_line, end_line, end_rounds_line};
 ghost use Rattle.drum_bracket.specs.RoundsText.{part_line as part_text, rounds_line};
 ghost use Rattle.drum_bracket.specs.PartLine.{line_text};
 
 use drum_devices::Output;
+use drum_hop_lines::Line;
 use drum_lines::{WriteFault, four_digits, send};
-use drum_listing::Line;
 use itoa::Buffer;
 
 /// A line that is no hop's. Times are in word times.
@@ -32,7 +32,7 @@ fn send_part<O: Output>(writer: &mut O, sent: usize, part: usize) -> Result<usiz
     requires few { sent ≤ 2 ^ 60 }
     ensures sent { IsSent (O.written writer.old) (O.written writer.new) sent result
         (part_text part) }
-    ensures failures { O.failed writer.new ≡ O.failed writer.old + fails_by result }
+    ensures failures { O.failed writer.new ≡ O.failed writer.old + failed_writes result }
     ensures calls { O.called writer.new ≤ O.called writer.old + 1000 }
     ensures few { IfOk result (λ total. total ≤ sent + 1000) }
 {
@@ -47,7 +47,7 @@ fn send_end<O: Output>(writer: &mut O, sent: usize, part: usize) -> Result<usize
     requires few { sent ≤ 2 ^ 60 }
     ensures sent { IsSent (O.written writer.old) (O.written writer.new) sent result
         (end_line part) }
-    ensures failures { O.failed writer.new ≡ O.failed writer.old + fails_by result }
+    ensures failures { O.failed writer.new ≡ O.failed writer.old + failed_writes result }
     ensures calls { O.called writer.new ≤ O.called writer.old + 1000 }
     ensures few { IfOk result (λ total. total ≤ sent + 1000) }
 {
@@ -68,7 +68,7 @@ fn send_again<O: Output>(
     requires few { sent ≤ 2 ^ 60 }
     ensures sent { IsSent (O.written writer.old) (O.written writer.new) sent result
         (again_line part begun ended) }
-    ensures failures { O.failed writer.new ≡ O.failed writer.old + fails_by result }
+    ensures failures { O.failed writer.new ≡ O.failed writer.old + failed_writes result }
     ensures calls { O.called writer.new ≤ O.called writer.old + 1000 }
     ensures few { IfOk result (λ total. total ≤ sent + 1000) }
 {
@@ -97,7 +97,7 @@ fn send_rounds<O: Output>(
     requires few { sent ≤ 2 ^ 60 }
     ensures sent { IsSent (O.written writer.old) (O.written writer.new) sent result
         (rounds_line times from onto) }
-    ensures failures { O.failed writer.new ≡ O.failed writer.old + fails_by result }
+    ensures failures { O.failed writer.new ≡ O.failed writer.old + failed_writes result }
     ensures calls { O.called writer.new ≤ O.called writer.old + 1000 }
     ensures few { IfOk result (λ total. total ≤ sent + 1000) }
 {
@@ -126,7 +126,7 @@ fn send_end_rounds<O: Output>(
     requires few { sent ≤ 2 ^ 60 }
     ensures sent { IsSent (O.written writer.old) (O.written writer.new) sent result
         (end_rounds_line each ended) }
-    ensures failures { O.failed writer.new ≡ O.failed writer.old + fails_by result }
+    ensures failures { O.failed writer.new ≡ O.failed writer.old + failed_writes result }
     ensures calls { O.called writer.new ≤ O.called writer.old + 1000 }
     ensures few { IfOk result (λ total. total ≤ sent + 1000) }
 {

@@ -5,7 +5,7 @@ ghost use Rattle.std.specs.Prelude.{◌≡◌, ◌+◌, ◌^◌, ◌≤◌, IfOk
 ghost use Rattle.std.specs.List.{enumerate_from};
 ghost use Rattle.drum_rounds.specs.InRounds.{passes_in};
 ghost use Rattle.drum_ceiling.specs.CeilingOf.{prices_of};
-ghost use Rattle.drum_lines.specs.Sent.{IsSent, IsWritten, fails_by};
+ghost use Rattle.drum_lines.specs.Sent.{IsSent, IsWritten, failed_writes};
 ghost use Rattle.drum_bracket.specs.CeilingText.{ceiling_text, price_line, price_line_at};
 ghost use Rattle.drum_bracket.specs.CeilingText.{total_lines};
 
@@ -27,7 +27,7 @@ fn send_price<O: Output>(
     requires few { sent ≤ 2 ^ 40 }
     ensures sent { IsSent (O.written writer.old) (O.written writer.new) sent result
         (price_line mark.now price passes) }
-    ensures failures { O.failed writer.new ≡ O.failed writer.old + fails_by result }
+    ensures failures { O.failed writer.new ≡ O.failed writer.old + failed_writes result }
     ensures calls { O.called writer.new ≤ O.called writer.old + 170 }
     ensures short { length (price_line mark.now price passes) ≤ 170 }
 {
@@ -63,7 +63,7 @@ fn send_prices<O: Output>(
     requires passes { length marks.now ≤ length (passes_in bracket.now.walk) }
     ensures sent { IsSent (O.written writer.old) (O.written writer.new) 0 result
         (flat_map (price_line_at bracket.now) (enumerate_from 0 marks.now)) }
-    ensures failures { O.failed writer.new ≡ O.failed writer.old + fails_by result }
+    ensures failures { O.failed writer.new ≡ O.failed writer.old + failed_writes result }
     ensures calls { O.called writer.new ≤ O.called writer.old + 10880 }
     ensures few { IfOk result (λ total. total ≤ 10880) }
 {
@@ -86,7 +86,7 @@ pub fn send_totals<O: Output>(
     requires few { sent ≤ 2 ^ 60 }
     ensures sent { IsSent (O.written writer.old) (O.written writer.new) sent result
         (total_lines reached total) }
-    ensures failures { O.failed writer.new ≡ O.failed writer.old + fails_by result }
+    ensures failures { O.failed writer.new ≡ O.failed writer.old + failed_writes result }
     ensures calls { O.called writer.new ≤ O.called writer.old + 120 }
 {
     let (mut first, mut second) = (Buffer::new(), Buffer::new());
@@ -117,7 +117,7 @@ pub fn report_ceiling<O: Output>(
     requires passes { length (passes_in bracket.now.walk) ≡ length notes.now.marks }
     ensures written { IsWritten (O.written writer.old) (O.written writer.new) result
         (ceiling_text notes.now bracket.now) }
-    ensures failures { O.failed writer.new ≡ O.failed writer.old + fails_by result }
+    ensures failures { O.failed writer.new ≡ O.failed writer.old + failed_writes result }
     ensures calls { O.called writer.new ≤ O.called writer.old + 11000 }
 {
     let sent = send_prices(writer, notes.marks(), bracket)?;

@@ -1,13 +1,13 @@
 //! How far a walk is told.
 
 ghost use Rattle.std.specs.Prelude.{◌≡◌, ◌+◌, ◌^◌, ◌<◌, OnOk, [], ◌∷◌, length};
-ghost use Rattle.drum_lines.specs.Sent.{fails_by};
+ghost use Rattle.drum_lines.specs.Sent.{failed_writes};
 ghost use Rattle.drum_bracket.specs.RoundsText.{one_more};
 ghost use Rattle.drum_bracket.specs.ProgressOf.{told_of, HasMoved, IsPassed, MayPass};
 
 use drum_devices::Output;
+use drum_hop_lines::{Line, Page, pass_line};
 use drum_lines::WriteFault;
-use drum_listing::{Line, Page, pass_line};
 
 /// How far a walk is told.
 #[derive(Drop)]
@@ -30,7 +30,7 @@ impl Progress {
         requires { MayPass (O.called writer.old) self.old }
         ensures lines { IsPassed (O.written writer.old) (O.written writer.new) self.old self.new
             result (L.text line.now ∷ []) }
-        ensures failures { O.failed writer.new ≡ O.failed writer.old + fails_by result }
+        ensures failures { O.failed writer.new ≡ O.failed writer.old + failed_writes result }
         ensures moved { OnOk result
             (HasMoved (O.called writer.old) (O.called writer.new) self.old self.new) }
     {

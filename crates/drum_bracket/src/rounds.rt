@@ -3,7 +3,7 @@
 ghost use Rattle.std.specs.Prelude.{◌≡◌, ◌+◌, ◌^◌, ◌<◌, ◌≤◌, IfOk};
 ghost use Rattle.drum_times.specs.Entries.{entry_in};
 ghost use Rattle.drum_rounds.specs.InRounds.{pieces_of, total_of};
-ghost use Rattle.drum_lines.specs.Sent.{IsSent, IsWritten, fails_by};
+ghost use Rattle.drum_lines.specs.Sent.{IsSent, IsWritten, failed_writes};
 ghost use Rattle.drum_bracket.specs.OutlineOf.{IsOutlineOf, IsWalkWith};
 ghost use Rattle.drum_bracket.specs.RoundsText.{joined, rounds_text, tell};
 
@@ -13,8 +13,8 @@ use crate::progress::Progress;
 use crate::teller::Teller;
 use drum_ceiling::Bracket;
 use drum_devices::Output;
+use drum_hop_lines::Page;
 use drum_lines::{WriteFault, send};
-use drum_listing::Page;
 use drum_rounds::InRounds;
 use drum_times::Times;
 
@@ -31,7 +31,7 @@ fn send_walk<O: Output>(
     requires early { total_of walk.now < 2 ^ 127 }
     ensures sent { IsSent (O.written writer.old) (O.written writer.new) 0 result
         (joined (tell (entry_in times.now) (pieces_of walk.now)).0) }
-    ensures failures { O.failed writer.new ≡ O.failed writer.old + fails_by result }
+    ensures failures { O.failed writer.new ≡ O.failed writer.old + failed_writes result }
     ensures calls { IfOk result (λ _. O.called writer.new ≤ O.called writer.old + 2 ^ 50) }
     ensures few { IfOk result (λ total. total ≤ 2 ^ 50) }
 {
@@ -73,7 +73,7 @@ pub fn list_rounds<O: Output>(
     requires early { total_of bracket.now.walk < 2 ^ 127 }
     ensures written { IsWritten (O.written writer.old) (O.written writer.new) result
         (rounds_text (entry_in times.now) bracket.now) }
-    ensures failures { O.failed writer.new ≡ O.failed writer.old + fails_by result }
+    ensures failures { O.failed writer.new ≡ O.failed writer.old + failed_writes result }
 {
     let walk = &bracket.walk;
     let sent = send_walk(outline, walk, times, writer)?;

@@ -2,7 +2,7 @@
 
 ghost use Rattle.std.specs.Prelude.{◌≡◌, ◌+◌, ◌≤◌, OnOk, Some, length, slice_get};
 ghost use Rattle.drum_walks.specs.declared.piece.Piece.TheVariants as pieces;
-ghost use Rattle.drum_lines.specs.Sent.{fails_by};
+ghost use Rattle.drum_lines.specs.Sent.{failed_writes};
 ghost use Rattle.drum_bracket.specs.ProgressOf.{told_of, HasTold, IsPassed, MayTell};
 ghost use Rattle.drum_bracket.specs.RoundsText.{first_part};
 ghost use Rattle.drum_bracket.specs.TellerOf.{named_told, piece_told, pieces_in, row_told};
@@ -31,7 +31,7 @@ impl Teller<'_> {
             (row_told self.now limit names.now (told_of progress.old)) }
         ensures lines { IsPassed (O.written writer.old) (O.written writer.new) progress.old
             progress.new result (row_told self.now limit names.now (told_of progress.old)).0 }
-        ensures failures { O.failed writer.new ≡ O.failed writer.old + fails_by result }
+        ensures failures { O.failed writer.new ≡ O.failed writer.old + failed_writes result }
         ensures told { OnOk result (HasTold (O.called writer.old) (O.called writer.new) progress.old
             progress.new (row_told self.now limit names.now (told_of progress.old))) }
     {
@@ -57,7 +57,7 @@ impl Teller<'_> {
         ensures lines { IsPassed (O.written writer.old) (O.written writer.new) progress.old
             progress.new result
             (piece_told self.now limit (pieces.Rounds rounds) (told_of progress.old)).0 }
-        ensures failures { O.failed writer.new ≡ O.failed writer.old + fails_by result }
+        ensures failures { O.failed writer.new ≡ O.failed writer.old + failed_writes result }
         ensures told { OnOk result (HasTold (O.called writer.old) (O.called writer.new) progress.old
             progress.new
             (piece_told self.now limit (pieces.Rounds rounds) (told_of progress.old))) }
@@ -87,7 +87,7 @@ impl Teller<'_> {
             (piece_told self.now number piece.now (told_of progress.old)) }
         ensures lines { IsPassed (O.written writer.old) (O.written writer.new) progress.old
             progress.new result (piece_told self.now number piece.now (told_of progress.old)).0 }
-        ensures failures { O.failed writer.new ≡ O.failed writer.old + fails_by result }
+        ensures failures { O.failed writer.new ≡ O.failed writer.old + failed_writes result }
         ensures told { OnOk result (HasTold (O.called writer.old) (O.called writer.new) progress.old
             progress.new (piece_told self.now number piece.now (told_of progress.old))) }
     {
@@ -114,7 +114,7 @@ impl Teller<'_> {
         ensures lines { IsPassed (O.written writer.old) (O.written writer.new) progress.old
             progress.new result
             (first_part number (piece_told self.now number piece.now) (told_of progress.old)).0 }
-        ensures failures { O.failed writer.new ≡ O.failed writer.old + fails_by result }
+        ensures failures { O.failed writer.new ≡ O.failed writer.old + failed_writes result }
         ensures told { OnOk result (HasTold (O.called writer.old) (O.called writer.new) progress.old
             progress.new
             (first_part number (piece_told self.now number piece.now) (told_of progress.old))) }
@@ -141,7 +141,7 @@ impl Teller<'_> {
             (named_told self.now limit number (told_of progress.old)) }
         ensures lines { IsPassed (O.written writer.old) (O.written writer.new) progress.old
             progress.new result (named_told self.now limit number (told_of progress.old)).0 }
-        ensures failures { O.failed writer.new ≡ O.failed writer.old + fails_by result }
+        ensures failures { O.failed writer.new ≡ O.failed writer.old + failed_writes result }
         ensures told { OnOk result (HasTold (O.called writer.old) (O.called writer.new) progress.old
             progress.new (named_told self.now limit number (told_of progress.old))) }
     {

@@ -9,7 +9,7 @@ mod kind_row;
 mod listing;
 
 use adding::{by_kind, waited};
-use drum_listing::{Kind, Waited};
+use drum_hop_lines::{Kind, Waited};
 use drum_rounds::InRounds;
 use drum_times::Times;
 use indexmap::IndexMap;

@@ -4,7 +4,7 @@ use Rattle.std.specs.Prelude.{slice_index, All, Contains}
 use Rattle.std.proofs.Math.Nat.{mul-le-mul_left, mul-le-mul_right}
 use Rattle.drum_times.specs.declared.notes.mark.Mark.{Mark}
 use Rattle.drum_times.specs.Allowed.{StandInEarlier}
-use Rattle.drum_flow.specs.Accepted.{told}
+use Rattle.drum_flow.specs.Accepted.{capped}
 use Rattle.drum_flow.specs.Executed.{each_place, AreAllNodes}
 use Rattle.drum_flow.specs.Hops.{first_node, Node}
 use Rattle.drum_flow.specs.Walk.{IsProper, Setting}
@@ -24,11 +24,11 @@ use Rattle.drum_ceiling.proofs.Shut.{owed_same, priced_long, prices_few, same_ce
 use Rattle.drum_ceiling.proofs.Together.{together}
 
 -- what is told of a number is no more than that
-told_few : (n m : ℕ) → m ≡ told n → m ≤ n
+told_few : (n m : ℕ) → m ≡ capped n → m ≤ n
 told_few n m is = omega (arith, is)
 
 -- all passes, by what is told of those in rounds, are no more than those that a walk has at most
-pub passes_few : (marks : List Mark) (rounds : List ℕ) → StandInEarlier 0 marks → AreInRounds told marks rounds
+pub passes_few : (marks : List Mark) (rounds : List ℕ) → StandInEarlier 0 marks → AreInRounds capped marks rounds
     → passes_in_all marks rounds ≤ passes_together marks 0 marks
 passes_few marks rounds nested are =
     together marks rounds nested are.long
@@ -36,8 +36,8 @@ passes_few marks rounds nested are =
 
 -- The product that is told is no more than what no ceiling is above.
 pub size_low : (marks : List Mark) (words longest passes more product : ℕ) (rounds : List ℕ) → StandInEarlier 0 marks
-    → AreInRounds told marks rounds → passes ≡ told (passes_in_all marks rounds) → more ≡ told (1 + passes)
-    → product ≡ told (words * longest * more) → product ≤ size_of marks words longest
+    → AreInRounds capped marks rounds → passes ≡ capped (passes_in_all marks rounds) → more ≡ capped (1 + passes)
+    → product ≡ capped (words * longest * more) → product ≤ size_of marks words longest
 size_low marks words longest passes more product rounds nested are all one is =
     let few : more ≤ 1 + passes_together marks 0 marks =
     omega (
@@ -52,9 +52,9 @@ size_low marks words longest passes more product rounds nested are all one is =
 module _ (g : Setting) (nodes order : List Node) (proper : IsProper g)
     (reached : AreAllNodes g.loads g.notes g.start nodes)
     (free : IsNodeOrder g.loads g.notes nodes order) (longest : ℕ) (takes : TakesAtMost g (each_place nodes) longest)
-    (rounds : List ℕ) (are : AreInRounds told g.notes.marks rounds) (passes more product : ℕ)
-    (all : passes ≡ told (passes_in_all g.notes.marks rounds)) (one : more ≡ told (1 + passes))
-    (is : product ≡ told (length nodes * longest * more)) (small : product < 2 ^ 127) where
+    (rounds : List ℕ) (are : AreInRounds capped g.notes.marks rounds) (passes more product : ℕ)
+    (all : passes ≡ capped (passes_in_all g.notes.marks rounds)) (one : more ≡ capped (1 + passes))
+    (is : product ≡ capped (length nodes * longest * more)) (small : product < 2 ^ 127) where
   abbrev pub words : ℕ
   words = length nodes
 
@@ -92,7 +92,7 @@ module _ (g : Setting) (nodes order : List Node) (proper : IsProper g)
   each k below =
       omega (arith, are.each k below, inside_few g.notes.marks k 0 g.notes.marks rounds, more_is, more_small)
 
-  prices_are : map (λ round. told (unit * round)) rounds ≡ prices_by unit rounds
+  prices_are : map (λ round. capped (unit * round)) rounds ≡ prices_by unit rounds
   prices_are =
       told_prices unit rounds
       (λ k below.
@@ -102,8 +102,8 @@ module _ (g : Setting) (nodes order : List Node) (proper : IsProper g)
       (omega (arith, each k within, inside_few g.notes.marks k 0 g.notes.marks rounds, more_is)) in
       omega (arith, few, exact, small))
 
-  pub by_order : (prices : List ℕ) (total sum : ℕ) → prices ≡ priced told unit g.notes.marks rounds
-      → sum ≡ told (unit * passes) → total ≡ high order (first_node g.notes g.start) * longest + sum
+  pub by_order : (prices : List ℕ) (total sum : ℕ) → prices ≡ priced capped unit g.notes.marks rounds
+      → sum ≡ capped (unit * passes) → total ≡ high order (first_node g.notes g.start) * longest + sum
       → ArePrices g prices total × (total ≤ size_of g.notes.marks words longest)
       × All (λ price. price ≤ size_of g.notes.marks words longest) prices
   by_order prices total sum made summed is_total =

@@ -10,15 +10,15 @@ use Rattle.drum_times.specs.declared.notes.mark.Mark.{Mark}
 use Rattle.drum_times.specs.Allowed.{StandInEarlier}
 use Rattle.drum_machine.specs.Counts.{is_inside}
 use Rattle.drum_machine.proofs.SinceLaws.{inside_iff, leads_earlier}
-use Rattle.drum_flow.specs.Accepted.{told}
+use Rattle.drum_flow.specs.Accepted.{capped}
 use Rattle.drum_acceptance.proofs.Products.{told_less}
 use Rattle.drum_ceiling.specs.InRounds.{passes_in_all, passes_inside}
 
 -- a sum of told numbers is told as the sum of all
-pub told_sum : (a h r s : ℕ) → s ≡ told (a + told h) → told (s + r) ≡ told (a + (h + r))
+pub told_sum : (a h r s : ℕ) → s ≡ capped (a + capped h) → capped (s + r) ≡ capped (a + (h + r))
 told_sum a h r s is = omega (arith, is)
 
-pub told_one : (n m : ℕ) → m ≡ told n → told (1 + m) ≡ told (1 + n)
+pub told_one : (n m : ℕ) → m ≡ capped n → capped (1 + m) ≡ capped (1 + n)
 told_one n m is = omega (arith, is)
 
 -- something stands at a number below as many as there are
@@ -81,21 +81,21 @@ set_other (y ∷ xs) (suc j) (suc k) x before = set_other xs j k x (omega (arith
 
 -- One more is right, and the later ones stay so.
 pub one_more : (marks : List Mark) (rounds : List ℕ) (index x : ℕ) → StandInEarlier 0 marks
-    → length rounds ≡ length marks → index < length marks → x ≡ told (1 + passes_inside marks index 0 marks rounds)
+    → length rounds ≡ length marks → index < length marks → x ≡ capped (1 + passes_inside marks index 0 marks rounds)
     → ((k : ℕ) → k < length marks → index < k
-    → slice_index rounds k ≡ told (1 + passes_inside marks k 0 marks rounds))
+    → slice_index rounds k ≡ capped (1 + passes_inside marks k 0 marks rounds))
     → (k : ℕ) → k < length marks → index ≤ k
-    → slice_index (set rounds index x) k ≡ told (1 + passes_inside marks k 0 marks (set rounds index x))
+    → slice_index (set rounds index x) k ≡ capped (1 + passes_inside marks k 0 marks (set rounds index x))
 one_more marks rounds index x nested long below is later k within from = elim (cases_lt index k) [
   | inl before ↦
       set_other rounds index k x before ∙ later k within before
-      ∙ ap (λ (n : ℕ). told (1 + n)) (sym (same k from))
+      ∙ ap (λ (n : ℕ). capped (1 + n)) (sym (same k from))
   | inr here ↦ (
       let own : index ≡ k = omega (arith, from, here) in
       ap (λ (n : ℕ). slice_index (set rounds index x) n) (sym own)
       ∙ set_same rounds index x (omega (arith, below, long)) ∙ is
-      ∙ ap (λ (n : ℕ). told (1 + passes_inside marks n 0 marks rounds)) own
-      ∙ ap (λ (n : ℕ). told (1 + n)) (sym (same k from)))
+      ∙ ap (λ (n : ℕ). capped (1 + passes_inside marks n 0 marks rounds)) own
+      ∙ ap (λ (n : ℕ). capped (1 + n)) (sym (same k from)))
 ]
   where
     same : (k : ℕ) → index ≤ k → passes_inside marks k 0 marks (set rounds index x) ≡ passes_inside marks k 0 marks rounds
@@ -118,10 +118,10 @@ inside_few all outer index (mark ∷ marks) (round ∷ rounds) =
 
 -- prices that are small enough are told as they are
 pub told_prices : (unit : ℕ) (rounds : List ℕ) → ((k : ℕ) → k < length rounds → unit * slice_index rounds k ≤ 2 ^ 127)
-    → map (λ round. told (unit * round)) rounds ≡ map (λ round. unit * round) rounds
+    → map (λ round. capped (unit * round)) rounds ≡ map (λ round. unit * round) rounds
 told_prices unit [] small = refl
 told_prices unit (round ∷ rounds) small =
-    let own : told (unit * round) ≡ unit * round = told_less (unit * round) (small 0 (omega arith)) in
-    ap (λ (n : ℕ). n ∷ map (λ round. told (unit * round)) rounds) own
+    let own : capped (unit * round) ≡ unit * round = told_less (unit * round) (small 0 (omega arith)) in
+    ap (λ (n : ℕ). n ∷ map (λ round. capped (unit * round)) rounds) own
     ∙ ap (λ (rest : List ℕ). (unit * round) ∷ rest)
     (told_prices unit rounds (λ k below. small (suc k) (omega (arith, below))))

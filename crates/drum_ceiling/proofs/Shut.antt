@@ -8,7 +8,7 @@ use Rattle.std.proofs.lemmas.Bool.{eqb-true, ne_eqb}
 use Rattle.std.proofs.lemmas.List.Elements.{All-cons, All-nil}
 use Rattle.drum_times.specs.declared.notes.mark.Mark.{Mark}
 use Rattle.drum_machine.specs.Counts.{after_pass, no_counts}
-use Rattle.drum_flow.specs.Accepted.{told}
+use Rattle.drum_flow.specs.Accepted.{capped}
 use Rattle.drum_flow.specs.Hops.{first_node, Node}
 use Rattle.drum_flow.specs.Walk.{Setting}
 use Rattle.drum_rows.specs.SiteRows.{node_behind}
@@ -39,20 +39,20 @@ same_certificate g owed other total same is = record {
 
 -- what is left costs the same, whether the marks that may never be passed cost anything or not
 left_same : (within : ℕ → Bool) (unit index : ℕ) (marks : List Mark) (rounds counts : List ℕ)
-    → cost_left within index marks (priced told unit marks rounds) counts
-    ≡ cost_left within index marks (map (λ round. told (unit * round)) rounds) counts
+    → cost_left within index marks (priced capped unit marks rounds) counts
+    ≡ cost_left within index marks (map (λ round. capped (unit * round)) rounds) counts
 left_same within unit index [] rounds counts = refl
 left_same within unit index (mark ∷ marks) [] counts = refl
 left_same within unit index (mark ∷ marks) (round ∷ rounds) [] = refl
 left_same within unit index (mark ∷ marks) (round ∷ rounds) (count ∷ counts) =
-    ap (λ (n : ℕ). n + cost_left within (index + 1) marks (priced told unit marks rounds) counts)
+    ap (λ (n : ℕ). n + cost_left within (index + 1) marks (priced capped unit marks rounds) counts)
     (one (within index) (mark.most == 0) refl)
-    ∙ ap (λ (n : ℕ). (if within index then told (unit * round) * (mark.most - count) else 0) + n)
+    ∙ ap (λ (n : ℕ). (if within index then capped (unit * round) * (mark.most - count) else 0) + n)
     (left_same within unit (index + 1) marks rounds counts)
   where
     one : (here shut : Bool) → (mark.most == 0) ≡ shut
-        → (if here then (if shut then 0 else told (unit * round)) * (mark.most - count) else 0)
-        ≡ (if here then told (unit * round) * (mark.most - count) else 0)
+        → (if here then (if shut then 0 else capped (unit * round)) * (mark.most - count) else 0)
+        ≡ (if here then capped (unit * round) * (mark.most - count) else 0)
     one false shut is = refl
     one true false is = refl
     one true true is =
@@ -61,8 +61,8 @@ left_same within unit index (mark ∷ marks) (round ∷ rounds) (count ∷ count
 
 -- and so is owed the same
 pub owed_same : (unit : ℕ) (marks : List Mark) (rounds : List ℕ) (form : Affine) (node : Node) (angle : ℕ) (counts : List ℕ)
-    → owed_by marks (priced told unit marks rounds) form node angle counts
-    ≡ owed_by marks (map (λ round. told (unit * round)) rounds) form node angle counts
+    → owed_by marks (priced capped unit marks rounds) form node angle counts
+    ≡ owed_by marks (map (λ round. capped (unit * round)) rounds) form node angle counts
 owed_same unit marks rounds form node angle counts =
     ap (λ (left : ℕ). elim (form.level node angle) [
       | None ↦ None
@@ -71,7 +71,7 @@ owed_same unit marks rounds form node angle counts =
 
 -- each mark has a price
 pub priced_long : (unit : ℕ) (marks : List Mark) (rounds : List ℕ) → length rounds ≡ length marks
-    → length (priced told unit marks rounds) ≡ length marks
+    → length (priced capped unit marks rounds) ≡ length marks
 priced_long unit [] rounds long = refl
 priced_long unit (mark ∷ marks) [] long = absurd (omega (arith, long))
 priced_long unit (mark ∷ marks) (round ∷ rounds) long =
@@ -79,17 +79,17 @@ priced_long unit (mark ∷ marks) (round ∷ rounds) long =
 
 -- a price is no more than what is more than all passes cost
 pub prices_few : (unit bound : ℕ) (marks : List Mark) (rounds : List ℕ) → unit * passes_in_all marks rounds ≤ bound
-    → All (λ price. price ≤ bound) (priced told unit marks rounds)
+    → All (λ price. price ≤ bound) (priced capped unit marks rounds)
 prices_few unit bound [] rounds few = All-nil (λ price. price ≤ bound)
 prices_few unit bound (mark ∷ marks) [] few = All-nil (λ price. price ≤ bound)
 prices_few unit bound (mark ∷ marks) (round ∷ rounds) few =
     let split : unit * (mark.most * round + passes_in_all marks rounds)
     ≡ unit * (mark.most * round) + unit * passes_in_all marks rounds = mul-add unit (mark.most * round) (passes_in_all marks rounds) in
-    All-cons (λ price. price ≤ bound) (if mark.most == 0 then 0 else told (unit * round)) (priced told unit marks rounds)
+    All-cons (λ price. price ≤ bound) (if mark.most == 0 then 0 else capped (unit * round)) (priced capped unit marks rounds)
     (one mark.most (omega (arith, few, split)))
     (prices_few unit bound marks rounds (omega (arith, few, split)))
   where
-    one : (most : ℕ) → unit * (most * round) ≤ bound → (if most == 0 then 0 else told (unit * round)) ≤ bound
+    one : (most : ℕ) → unit * (most * round) ≤ bound → (if most == 0 then 0 else capped (unit * round)) ≤ bound
     one zero low = omega arith
     one (suc more) low =
         let once : 1 * round ≤ suc more * round = mul-le-mul_right round (omega arith) in

@@ -1,7 +1,7 @@
 -- What no ceiling is above, as the code has it.
 use Rattle.std.specs.Prelude.{◌≡◌, ℕ, ◌+◌, ◌*◌, ◌^◌, ◌<◌, ◌≤◌, List}
 use Rattle.drum_times.specs.declared.notes.mark.Mark.{Mark}
-use Rattle.drum_flow.specs.Accepted.{told}
+use Rattle.drum_flow.specs.Accepted.{capped}
 use Rattle.drum_ceiling.specs.declared.size.Size.{Size}
 use Rattle.drum_ceiling.specs.InRounds.{passes_in_all, AreInRounds}
 use Rattle.drum_ceiling.specs.Size.{size_of}
@@ -9,9 +9,9 @@ use Rattle.drum_ceiling.specs.Size.{size_of}
 -- It is that of so many nodes, below 2^64, and this longest step, by the passes in a round of each
 -- of the marks: no more than the size, since these are no more passes than a walk has at most.
 pub record IsSizeBy (marks : List Mark) (nodes longest : ℕ) (size : Size) : Type 0 where
-  pub rounds : AreInRounds told marks size.rounds.items
-  pub passes : size.passes ≡ told (passes_in_all marks size.rounds.items)
+  pub rounds : AreInRounds capped marks size.rounds.items
+  pub passes : size.passes ≡ capped (passes_in_all marks size.rounds.items)
   pub unit : size.unit ≡ nodes * longest
-  pub whole : size.whole ≡ told (size.unit * told (1 + size.passes))
+  pub whole : size.whole ≡ capped (size.unit * capped (1 + size.passes))
   pub low : size.whole ≤ size_of marks nodes longest
   pub few : nodes < 2 ^ 64

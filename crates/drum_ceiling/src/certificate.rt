@@ -1,7 +1,8 @@
 //! Prices of marks, their regions and levels of where instructions are found, and whether they are
 //! a certificate.
 
-ghost use Rattle.std.specs.Prelude.{◌≡◌, ℕ, ◌%◌, ◌+◌, ◌-◌, ◌^◌, ◌<◌, ◌≤◌, ◌⊎◌, List, Some, None, IsTrue};
+ghost use Rattle.std.specs.Prelude.{◌≡◌, ℕ, ◌%◌, ◌+◌, ◌-◌, ◌^◌, ◌<◌, ◌≤◌, ◌⊎◌, List, Some, None};
+ghost use Rattle.std.specs.Prelude.{IsTrue};
 ghost use Rattle.std.specs.Prelude.{length, vec_len, IfSome};
 ghost use Rattle.drum_order.specs.Graph.{AreDifferent};
 ghost use Rattle.drum_flow.specs.Walk.{IsProper, Setting};

@@ -3,10 +3,10 @@
 
 ghost use Rattle.std.specs.Prelude.{◌≡◌, ◌⊎◌, ◌^◌, ◌≤◌, Some, None, IfOk, IfErr, IfSome, IfNone};
 ghost use Rattle.std.specs.Prelude.{◌<◌, ℕ, length, All, Contains, MatchOption};
-ghost use Rattle.drum_deck.specs.Loads.{loads_in, start_in};
+ghost use Rattle.drum_deck.specs.InDeck.{loads_in, start_in};
 ghost use Rattle.drum_times.specs.declared.times.Times as tables;
 ghost use Rattle.drum_flow.specs.Accepted as said;
-ghost use Rattle.drum_flow.specs.Accepted.{told, IsAdmitted};
+ghost use Rattle.drum_flow.specs.Accepted.{capped, IsAdmitted};
 ghost use Rattle.drum_flow.specs.Executed.{AreAllNodes};
 ghost use Rattle.drum_flow.specs.Flow.{deck_of, nodes_of, notes_of, executed_in, of_flow};
 ghost use Rattle.drum_flow.specs.Flow.{AreFound};
@@ -120,7 +120,7 @@ fn prices_of(
 
 /// Executed locations times counts; 2^127 where that is more.
 fn product_of_flow(accepted: &AcceptedFlow<'_>, marks: &[Mark]) -> u128
-    ensures { result ≡ told (said.product_of (executed_in accepted.now.flow) marks.now) }
+    ensures { result ≡ capped (said.product_of (executed_in accepted.now.flow) marks.now) }
 {
     product_of(accepted.flow().executed().len(), marks)
 }

@@ -5,7 +5,7 @@ ghost use Rattle.std.specs.Prelude.{slice_get};
 ghost use Rattle.drum_times.specs.declared.notes.mark.Mark.{Mark};
 ghost use Rattle.drum_times.specs.Allowed.{StandInEarlier};
 ghost use Rattle.drum_machine.specs.Counts.{is_inside};
-ghost use Rattle.drum_flow.specs.Accepted.{told};
+ghost use Rattle.drum_flow.specs.Accepted.{capped};
 ghost use Rattle.drum_ceiling.specs.InRounds as said;
 ghost use Rattle.drum_ceiling.specs.InRounds.{AreInRounds};
 
@@ -16,7 +16,7 @@ use std::alloc::{AllocError, Global};
 
 /// The sum of two numbers; 2^127 where that is more.
 pub fn sum(one: u128, other: u128) -> u128
-    ensures { result ≡ told (one + other) }
+    ensures { result ≡ capped (one + other) }
 {
     one.saturating_add(other).min(LARGEST)
 }
@@ -26,7 +26,7 @@ pub fn sum(one: u128, other: u128) -> u128
 fn passes_of(marks: &[Mark], inner: usize, outer: usize, round: u128) -> u128
     requires { inner < length marks.now }
     ensures { (mark : Mark) → slice_get marks.now inner ≡ Some mark
-        → result ≡ told (if is_inside marks.now inner outer then mark.most * round else 0) }
+        → result ≡ capped (if is_inside marks.now inner outer then mark.most * round else 0) }
 {
     if is_inside(marks, inner, outer) {
         product(u128::from(marks[inner].most), round)
@@ -39,7 +39,7 @@ fn passes_of(marks: &[Mark], inner: usize, outer: usize, round: u128) -> u128
 /// passes in a round of each; 2^127 where that is more.
 fn inside_of(marks: &[Mark], outer: usize, rounds: &[u128]) -> u128
     requires { length rounds.now ≡ length marks.now }
-    ensures { result ≡ told (said.passes_inside marks.now outer 0 marks.now rounds.now) }
+    ensures { result ≡ capped (said.passes_inside marks.now outer 0 marks.now rounds.now) }
 {
     let mut passes: u128 = 0;
     for index in 0..marks.len() {
@@ -51,7 +51,7 @@ fn inside_of(marks: &[Mark], outer: usize, rounds: &[u128]) -> u128
 /// How many passes one round of each mark has at most; 2^127 where that is more.
 pub fn rounds_of(alloc: Global, marks: &[Mark]) -> Result<Vec<u128>, AllocError>
     requires { StandInEarlier 0 marks.now }
-    ensures { IfOk result (λ rounds. AreInRounds told marks.now rounds.items) }
+    ensures { IfOk result (λ rounds. AreInRounds capped marks.now rounds.items) }
 {
     let count = marks.len();
     let mut rounds = vec![in alloc; 0; count]?;
@@ -66,7 +66,7 @@ pub fn rounds_of(alloc: Global, marks: &[Mark]) -> Result<Vec<u128>, AllocError>
 /// that is more.
 pub fn passes_in_all(marks: &[Mark], rounds: &[u128]) -> u128
     requires { length rounds.now ≡ length marks.now }
-    ensures { result ≡ told (said.passes_in_all marks.now rounds.now) }
+    ensures { result ≡ capped (said.passes_in_all marks.now rounds.now) }
 {
     let mut passes: u128 = 0;
     for (index, mark) in marks.iter().enumerate() {

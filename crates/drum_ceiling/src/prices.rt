@@ -1,11 +1,12 @@
 //! Prices of marks with a total, and such as are surely high enough: by the order of the nodes.
 
-ghost use Rattle.std.specs.Prelude.{◌≡◌, ◌*◌, ◌^◌, ◌<◌, ◌≤◌, ◌==◌, if◌then◌else◌, length, All, Contains, ℕ};
+ghost use Rattle.std.specs.Prelude.{◌≡◌, ◌*◌, ◌^◌, ◌<◌, ◌≤◌, ◌==◌, if◌then◌else◌, length, All};
+ghost use Rattle.std.specs.Prelude.{Contains, ℕ};
 ghost use Rattle.std.specs.Prelude.{IfOk, MatchOption};
-ghost use Rattle.drum_deck.specs.Loads.{loads_in, start_in};
+ghost use Rattle.drum_deck.specs.InDeck.{loads_in, start_in};
 ghost use Rattle.drum_times.specs.declared.times.Times as tables;
 ghost use Rattle.drum_order.specs.Graph.{height};
-ghost use Rattle.drum_flow.specs.Accepted.{told, IsAdmitted};
+ghost use Rattle.drum_flow.specs.Accepted.{capped, IsAdmitted};
 ghost use Rattle.drum_flow.specs.Executed.{AreAllNodes};
 ghost use Rattle.drum_flow.specs.Flow.{deck_of, nodes_of, notes_of, executed_in, of_flow};
 ghost use Rattle.drum_flow.specs.SettingOf.{setting};
@@ -46,7 +47,7 @@ fn height_of(order: &[usize], node: usize) -> usize
 /// What a pass of a mark costs, so much for each pass in a round of it: nothing where it may never
 /// be passed.
 fn price_of(unit: u128, mark: &Mark, round: u128) -> u128
-    ensures { result ≡ (if mark.now.most == 0 then 0 else told (unit * round)) }
+    ensures { result ≡ (if mark.now.most == 0 then 0 else capped (unit * round)) }
 {
     if mark.most == 0 {
         return 0;
@@ -63,7 +64,7 @@ fn priced(
 ) -> Result<Vec<u128>, AllocError>
     requires { length rounds.now ≡ length marks.now }
     ensures { IfOk result (λ prices.
-        prices.items ≡ said.priced told unit marks.now rounds.now) }
+        prices.items ≡ said.priced capped unit marks.now rounds.now) }
 {
     let mut prices = Vec::new(alloc);
     for (index, mark) in marks.iter().enumerate() {

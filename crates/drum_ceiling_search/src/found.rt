@@ -15,7 +15,7 @@ pub struct Found {
     pub regions: Vec<u64>,
     /// By the numbers of sites, their levels; `None` where no walk comes.
     pub levels: Vec<Option<u128>>,
-    /// What is owed at most below 0 otherwise.
+    /// How much more the levels are than what is owed, so that none of them is below 0.
     pub debt: u128,
 }
 

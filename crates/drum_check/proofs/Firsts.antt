@@ -18,7 +18,7 @@ use Rattle.drum_flow.specs.declared.refusal.Refusal.TheVariants.{Memory, NotLoad
 use Rattle.drum_flow.specs.declared.refusal.Refusal.TheVariants.{HasCalls, TooLarge, TooMany}
 use Rattle.drum_flow.specs.Accepted as said
 use Rattle.drum_flow.specs.Accepted.{IsAltered, IsFirstOutside, IsFreeLink, IsGood, IsLowestAltered, IsMet}
-use Rattle.drum_flow.specs.Accepted.{IsFreeRound, IsNotInProfile, IsNotLoaded, IsSound, IsTooLarge, product_of, told}
+use Rattle.drum_flow.specs.Accepted.{IsFreeRound, IsNotInProfile, IsNotLoaded, IsSound, IsTooLarge, product_of, capped}
 use Rattle.drum_flow.specs.Accepted.{IsTooMany}
 use Rattle.drum_flow.specs.Executed.{found_after}
 use Rattle.drum_flow.specs.Hops.{IsNode, Node}
@@ -27,18 +27,21 @@ use Rattle.drum_acceptance.specs.Acceptance.{IsAdmissionRefusal, IsRefusal}
 use Rattle.drum_acceptance.proofs.Products.{many_told}
 use Rattle.drum_acceptance.proofs.Acceptances.{met_first, one_order}
 use Rattle.drum_acceptance.proofs.Alterations.{split_at}
-use Rattle.drum_check.specs.Findings.{AreFindings, Finding, not_loaded, not_in_profile, alters, too_large, closes}
-use Rattle.drum_check.specs.Findings.{altered, altered_by, altering, is_fixed, not_there, operations_outside, outside}
-use Rattle.drum_check.specs.Findings.{too_many, unfit}
+use Rattle.drum_finding.specs.Finding.{Finding, not_loaded, not_in_profile, alters, too_large}
+use Rattle.drum_finding.specs.Finding.{closes}
+use Rattle.drum_finding.specs.FoundAt.{altered, altered_by, altering, is_fixed, not_there}
+use Rattle.drum_finding.specs.FoundAt.{operations_outside, outside}
+use Rattle.drum_finding.specs.FoundAt.{too_many, unfit}
+use Rattle.drum_finding.specs.declared.within.Within.{Within}
+use Rattle.drum_finding.specs.UnchangedParts.{kept_of}
+use Rattle.drum_finding.proofs.Fixeds.{fixed_only, fixed_so}
+use Rattle.drum_finding.proofs.Outsides.{inside_none, outside_of}
+use Rattle.drum_check.specs.Findings.{AreFindings}
 use Rattle.drum_check.specs.First.{BeginsWith, IsFoundFirst}
-use Rattle.drum_check.specs.declared.within.Within.{Within}
 use Rattle.drum_check.specs.Insides.{AreLoops}
-use Rattle.drum_check.specs.Kept.{kept_of}
 use Rattle.drum_check.proofs.Begins.{begins_behind, begins_flat, begins_left, begins_lowest, begins_mapped, begins_new}
 use Rattle.drum_check.proofs.Fits.{absent_told, alters_none, good_fit, there_untold, unaltering}
-use Rattle.drum_check.proofs.Fixeds.{fixed_only, fixed_so}
 use Rattle.drum_check.proofs.Nothing.{all_nothing}
-use Rattle.drum_check.proofs.Outsides.{inside_none, outside_of}
 use Rattle.drum_check.proofs.Silent.{round_left}
 use Rattle.drum_check.proofs.Sizes.{large_told, long_untold, short_plain, small_untold}
 use Rattle.drum_check.proofs.Tellings.{first_told}
@@ -197,8 +200,8 @@ module _ (loads : ℕ → Option Word) (notes : Notes) (start : ℕ) where
         let order = is.2 in
         let same : order.0 ≡ a.executed =
         one_order loads notes start order.0 a.executed order.1 a.found.order in
-        let equal : told (product_of a.executed notes.marks) ≡ product =
-        sym (order.2 ∙ ap (λ (all : List ℕ). told (product_of all notes.marks)) same) in
+        let equal : capped (product_of a.executed notes.marks) ≡ product =
+        sym (order.2 ∙ ap (λ (all : List ℕ). capped (product_of all notes.marks)) same) in
         told_third (too_large product) parts.0 parts.1 (
           [],
           large_told notes (product_of a.executed notes.marks) short

@@ -10,12 +10,12 @@ use Rattle.drum_flow.specs.Accepted as said
 use Rattle.drum_flow.specs.Accepted.{IsGood, IsThere}
 use Rattle.drum_flow.specs.Executed.{with_new}
 use Rattle.drum_flow.specs.Flow.{AreFound}
-use Rattle.drum_check.specs.Findings.{Finding, not_loaded, not_in_profile, alters}
-use Rattle.drum_check.specs.Findings.{altered_by, altering, is_fixed, not_there, unfit}
-use Rattle.drum_check.specs.Kept.{kept_of}
-use Rattle.drum_check.proofs.Fixeds.{fixed_only}
+use Rattle.drum_finding.specs.Finding.{Finding, not_loaded, not_in_profile, alters}
+use Rattle.drum_finding.specs.FoundAt.{altered_by, altering, is_fixed, not_there, unfit}
+use Rattle.drum_finding.specs.UnchangedParts.{kept_of}
+use Rattle.drum_finding.proofs.Fixeds.{fixed_only}
+use Rattle.drum_finding.proofs.Outsides.{outside_of}
 use Rattle.drum_check.proofs.Nothing.{all_nothing, none_passes}
-use Rattle.drum_check.proofs.Outsides.{outside_of}
 
 pub there_untold : (loads : ℕ → Option Word) (notes : Notes) (place : ℕ) → IsThere loads notes place
     → not_there loads notes place ≡ []

@@ -9,13 +9,13 @@ use Rattle.std.proofs.lemmas.Simd.{map-map}
 use Rattle.drum_core.specs.declared.location.Location.{Location}
 use Rattle.drum_order.specs.Graph.{AreDifferent}
 use Rattle.drum_flow.proofs.Founds.{few_locations, numbers}
-use Rattle.drum_check.specs.declared.finding.Finding as held
-use Rattle.drum_check.specs.declared.finding.Finding.TheVariants as finding
-use Rattle.drum_check.specs.declared.kept.Kept.{Kept}
+use Rattle.drum_finding.specs.declared.finding.Finding as held
+use Rattle.drum_finding.specs.declared.finding.Finding.TheVariants as finding
+use Rattle.drum_finding.specs.declared.unchanged_parts.UnchangedParts.{UnchangedParts}
+use Rattle.drum_finding.specs.Finding.{Finding, alters}
+use Rattle.drum_finding.specs.FindingOf.{seen}
+use Rattle.drum_finding.specs.UnchangedParts.{both_keep}
 use Rattle.drum_check.specs.declared.lacking.Lack.{Lack}
-use Rattle.drum_check.specs.Findings.{Finding, alters}
-use Rattle.drum_check.specs.FindingsOf.{seen}
-use Rattle.drum_check.specs.Kept.{both_keep}
 use Rattle.drum_check.specs.Lacking.{altered_word, kept_in, words_altered}
 use Rattle.drum_check.specs.LackingOf.{pair_of}
 use Rattle.drum_check.proofs.Words.{at_places, different, none_more, places, there_more}
@@ -27,8 +27,8 @@ number_of lack = lack.word.number
 pub same_places : (before : List Finding) (items : List Lack) → map pair_of items ≡ words_altered before
     → map number_of items ≡ places before
 same_places before items are =
-    sym (map-map (λ (lack : ℕ × Kept). lack.0) pair_of items)
-    ∙ ap (map (λ (lack : ℕ × Kept). lack.0)) are ∙ at_places before
+    sym (map-map (λ (lack : ℕ × UnchangedParts). lack.0) pair_of items)
+    ∙ ap (map (λ (lack : ℕ × UnchangedParts). lack.0)) are ∙ at_places before
 
 -- the word at a place
 pub number_there : (items : List Lack) (k n : ℕ) (was : Lack) → slice_get (map number_of items) k ≡ Some n
@@ -41,7 +41,7 @@ number_there items k n was at here =
     cc
 
 -- a word that is there, with what one more writer leaves of it
-pub lack_met : (before : List Finding) (writer : ℕ) (word : Location) (kept left : Kept) (items : List Lack) (k : ℕ)
+pub lack_met : (before : List Finding) (writer : ℕ) (word : Location) (kept left : UnchangedParts) (items : List Lack) (k : ℕ)
     (was : Lack) → slice_get (map number_of items) k ≡ Some word.number → was ≡ get_or items k was
     → left ≡ both_keep was.kept kept → map pair_of items ≡ words_altered before
     → map pair_of (set items k (record { word = word; kept = left }))
@@ -53,8 +53,8 @@ lack_met before writer word kept left items k was at here is are =
     get_or_from_slice_get (map pair_of items) k (pair_of was) (pair_of was)
     (slice_get-map pair_of items k ∙ ap (option_map pair_of) (slice_get-get_or items k was within ∙ ap Some (sym here))) in
     map-set pair_of items k (record { word = word; kept = left })
-    ∙ ap (λ (one : Kept). set (map pair_of items) k (word.number, one))
-    (is ∙ ap (λ (lack : ℕ × Kept). both_keep lack.1 kept) (sym read))
+    ∙ ap (λ (one : UnchangedParts). set (map pair_of items) k (word.number, one))
+    (is ∙ ap (λ (lack : ℕ × UnchangedParts). both_keep lack.1 kept) (sym read))
     ∙ there_more before writer word.number kept (map pair_of items) are k (pair_of was)
     (sym (ap (λ (ns : List ℕ). slice_get ns k) (same_places before items are)) ∙ at)
 
@@ -74,7 +74,7 @@ few_words before items are =
 
 -- a finding that no word is altered
 tells_none : (one : held.Finding)
-    → ((writer word : Location) (kept : Kept) → one ≡ finding.Alters writer word kept → ⊥)
+    → ((writer word : Location) (kept : UnchangedParts) → one ≡ finding.Alters writer word kept → ⊥)
     → (altered_word (seen one) ≡ []) × ((word : ℕ) → kept_in word (seen one) ≡ [])
 tells_none (finding.NotLoaded location) other = (refl, λ word. refl)
 tells_none (finding.NotInProfile location op) other = (refl, λ word. refl)
@@ -88,7 +88,7 @@ tells_none (finding.Idle location) other = (refl, λ word. refl)
 tells_none (finding.Inside inner outer) other = (refl, λ word. refl)
 
 pub other_more : (before : List Finding) (one : held.Finding)
-    → ((writer word : Location) (kept : Kept) → one ≡ finding.Alters writer word kept → ⊥)
+    → ((writer word : Location) (kept : UnchangedParts) → one ≡ finding.Alters writer word kept → ⊥)
     → words_altered before ≡ words_altered (before ++ seen one ∷ [])
 other_more before one other =
     let none = tells_none one other in

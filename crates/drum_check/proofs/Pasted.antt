@@ -1,7 +1,7 @@
 -- The text of a pattern, piece by piece.
 use Rattle.std.proofs.Common.{◌≡◌, ℕ, List, ◌++◌, refl, sym, ◌∙◌, append_assoc}
 use Rattle.std.specs.Prelude.{codes}
-use Rattle.drum_check.specs.declared.kept.Kept.{Kept}
+use Rattle.drum_finding.specs.declared.unchanged_parts.UnchangedParts.{UnchangedParts}
 use Rattle.drum_check.specs.Lacking.{gap, part_text, pattern_text}
 
 -- ten pieces, the one within the other
@@ -9,7 +9,7 @@ in_turn : (a b c d e f g h i j : List ℕ)
     → a ++ (b ++ (c ++ (d ++ (e ++ (f ++ (g ++ (h ++ (i ++ j)))))))) ≡ a ++ b ++ c ++ d ++ e ++ f ++ g ++ h ++ i ++ j
 in_turn a b c d e f g h i j = sym (simp append_assoc)
 
-pub pattern_pieces : (kept : Kept) (op d i behind : List ℕ) → op ≡ part_text kept.op → d ≡ part_text kept.d
+pub pattern_pieces : (kept : UnchangedParts) (op d i behind : List ℕ) → op ≡ part_text kept.op → d ≡ part_text kept.d
     → i ≡ part_text kept.i → behind ≡ gap kept.i
     → codes "pattern = [{ op = " ++ (op ++ (codes ", d_from = " ++ (d ++ (codes ", d_to = " ++ (d ++ (codes ", i = "
     ++ (i ++ (behind ++ codes "}]")))))))) ≡ pattern_text kept

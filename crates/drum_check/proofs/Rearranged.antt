@@ -16,7 +16,7 @@ use Rattle.drum_order.specs.Graph.{LeadRound}
 use Rattle.drum_order.proofs.Lists.{contains_cases, contains_here, contains_none, contains_there}
 use Rattle.drum_flow.specs.Hops.{Node}
 use Rattle.drum_loops.specs.Loops.{AreApart, AreClosing, IsFreeBeside, IsFreeBut}
-use Rattle.drum_check.specs.Among.{AreThose}
+use Rattle.drum_check.specs.Those.{AreThose}
 use Rattle.drum_check.specs.Insides.{AreFewestFirst, AreSoMany}
 use Rattle.drum_check.proofs.Unsaids.{those_one}
 

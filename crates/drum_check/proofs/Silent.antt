@@ -16,14 +16,17 @@ use Rattle.drum_flow.specs.Flow.{AreFound}
 use Rattle.drum_flow.specs.Hops.{IsExecuted, Node}
 use Rattle.drum_acceptance.proofs.Acceptances.{one_order, one_reached}
 use Rattle.drum_loops.specs.Loops.{IsFreeBeside}
-use Rattle.drum_check.specs.Findings.{AreFindings, Finding, not_loaded, not_in_profile, alters}
-use Rattle.drum_check.specs.Findings.{altered, altered_by, altering, is_fixed, not_there, operations_outside}
-use Rattle.drum_check.specs.Idle.{idle_words}
-use Rattle.drum_check.specs.Kept.{kept_of}
-use Rattle.drum_check.specs.Findings.{outside, too_many, unfit, unused, unused_calls, inside_at, AreLooseEnds, IsUnsaid, pairs_of}
-use Rattle.drum_check.proofs.Fixeds.{fixed_so}
+use Rattle.drum_finding.specs.Finding.{Finding, not_loaded, not_in_profile, alters}
+use Rattle.drum_finding.specs.FoundAt.{altered, altered_by, altering, is_fixed, not_there}
+use Rattle.drum_finding.specs.FoundAt.{operations_outside}
+use Rattle.drum_finding.specs.Idle.{idle_words}
+use Rattle.drum_finding.specs.UnchangedParts.{kept_of}
+use Rattle.drum_finding.specs.FoundAt.{outside, too_many, unfit, unused, unused_calls}
+use Rattle.drum_finding.proofs.Fixeds.{fixed_so}
+use Rattle.drum_finding.proofs.Outsides.{outside_of}
+use Rattle.drum_check.specs.Findings.{AreFindings}
+use Rattle.drum_check.specs.Findings.{inside_at, AreLooseEnds, IsUnsaid, pairs_of}
 use Rattle.drum_check.proofs.Nothing.{before_nothing, both_nothing, each_nothing, in_filter, in_flat_map, none_added, of_nothing}
-use Rattle.drum_check.proofs.Outsides.{outside_of}
 use Rattle.drum_check.proofs.Sizes.{short_plain, told_small}
 use Rattle.drum_check.proofs.Tellings.{told_none}
 use Rattle.drum_check.proofs.Unsaids.{those_one}

@@ -7,49 +7,50 @@ use Rattle.std.proofs.lemmas.Bool.Decides.{Decides-eqb}
 use Rattle.drum_times.specs.Allowed.{Notes}
 use Rattle.drum_times.specs.declared.notes.call.Call.{Call}
 use Rattle.drum_times.specs.Short.{is_plain, is_short}
-use Rattle.drum_flow.specs.Accepted.{told}
+use Rattle.drum_flow.specs.Accepted.{capped}
 use Rattle.drum_acceptance.proofs.Products.{few_told, many_told}
-use Rattle.drum_check.specs.Findings.{Finding, too_large, too_many}
+use Rattle.drum_finding.specs.Finding.{Finding, too_large}
+use Rattle.drum_finding.specs.FoundAt.{too_many}
 
 -- no size is told of long notes, nor one that is small
 pub long_untold : (notes : Notes) (product : ℕ) → ¬ IsTrue (is_short notes) → too_many notes product ≡ []
 long_untold notes product long = go (is_short notes) long
   where
-    go : (b : Bool) → ¬ IsTrue b → cond (b && nat_lt 4000000 product) (too_large (told product) ∷ []) [] ≡ []
+    go : (b : Bool) → ¬ IsTrue b → cond (b && nat_lt 4000000 product) (too_large (capped product) ∷ []) [] ≡ []
     go true not = absurd (not refl)
     go false not = refl
 
 pub small_untold : (notes : Notes) (product : ℕ) → product ≤ 4000000 → too_many notes product ≡ []
 small_untold notes product small = go (is_short notes) (nat_lt 4000000 product) (le-ltb 4000000 product small)
   where
-    go : (a b : Bool) → b ≡ false → cond (a && b) (too_large (told product) ∷ []) [] ≡ []
-    go true b e = ap (λ (c : Bool). cond c (too_large (told product) ∷ []) []) e
+    go : (a b : Bool) → b ≡ false → cond (a && b) (too_large (capped product) ∷ []) [] ≡ []
+    go true b e = ap (λ (c : Bool). cond c (too_large (capped product) ∷ []) []) e
     go false b e = refl
 
 -- of short notes a large one is
 pub large_told : (notes : Notes) (product : ℕ) → is_short notes ≡ true → 4000000 < product
-    → too_many notes product ≡ too_large (told product) ∷ []
+    → too_many notes product ≡ too_large (capped product) ∷ []
 large_told notes product short large =
-    ap (λ (b : Bool). cond (b && nat_lt 4000000 product) (too_large (told product) ∷ []) []) short
-    ∙ ap (λ (b : Bool). cond b (too_large (told product) ∷ []) []) (lt-ltb 4000000 product large)
+    ap (λ (b : Bool). cond (b && nat_lt 4000000 product) (too_large (capped product) ∷ []) []) short
+    ∙ ap (λ (b : Bool). cond b (too_large (capped product) ∷ []) []) (lt-ltb 4000000 product large)
 
 -- so where none is told it is small
 pub told_small : (notes : Notes) (product : ℕ) → is_short notes ≡ true → too_many notes product ≡ []
     → product ≤ 4000000
 told_small notes product short none = elim (cases_lt 4000000 product) [
-  | inl large ↦ (let clash : ◌≡◌ {A = List Finding} (too_large (told product) ∷ []) [] =
+  | inl large ↦ (let clash : ◌≡◌ {A = List Finding} (too_large (capped product) ∷ []) [] =
       sym (large_told notes product short large) ∙ none in
       cc)
   | inr small ↦ small
 ]
 
 -- as the code comes to it
-pub none_too_many : (notes : Notes) (product size : ℕ) → size ≡ told product → size ≤ 4000000
+pub none_too_many : (notes : Notes) (product size : ℕ) → size ≡ capped product → size ≤ 4000000
     → [] ≡ too_many notes product
 none_too_many notes product size is low =
     sym (small_untold notes product (few_told product (omega (arith, is, low))))
 
-pub one_too_many : (notes : Notes) (product size : ℕ) → is_short notes ≡ true → size ≡ told product
+pub one_too_many : (notes : Notes) (product size : ℕ) → is_short notes ≡ true → size ≡ capped product
     → 4000000 < size → too_large size ∷ [] ≡ too_many notes product
 one_too_many notes product size short is high =
     ap (λ (n : ℕ). let found : List Finding = too_large n ∷ [] in found) is

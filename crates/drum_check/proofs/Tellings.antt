@@ -4,11 +4,11 @@ use Rattle.std.proofs.lemmas.List.{append-nil}
 use Rattle.drum_core.specs.declared.word.Word.{Word}
 use Rattle.drum_times.specs.Allowed.{Notes}
 use Rattle.drum_flow.specs.Hops.{Node}
-use Rattle.drum_check.specs.Finding.{Finding, closes}
+use Rattle.drum_finding.specs.Finding.{Finding, closes}
+use Rattle.drum_finding.specs.declared.within.Within.{Within}
+use Rattle.drum_finding.specs.declared.within.Within.TheVariants as within
 use Rattle.drum_check.specs.First.{BeginsWith}
 use Rattle.drum_check.specs.Insides.{AreLoops, AreToldInside}
-use Rattle.drum_check.specs.declared.within.Within.{Within}
-use Rattle.drum_check.specs.declared.within.Within.TheVariants as within
 
 -- one loop more
 pub told_more : (IsTold : List (ℕ × ℕ) → ℕ × ℕ → Within → Type 0) (before edges : List (ℕ × ℕ))

@@ -4,7 +4,7 @@ use Rattle.std.proofs.Common.{arith}
 use Rattle.std.specs.Prelude.{flat_map}
 use Rattle.std.specs.List.{range_with_len}
 use Rattle.std.proofs.lemmas.List.{append_assoc}
-use Rattle.drum_check.specs.Findings.{AreThose}
+use Rattle.drum_check.specs.Those.{AreThose}
 
 -- one that has it, and one that hasn't
 pub one_in : {X : Type 0} (P : X → Type 0) (x : X) → P x → AreThose P (x ∷ []) (x ∷ [])

@@ -4,8 +4,8 @@ use Rattle.std.specs.Prelude.{Contains, ◌||◌}
 use Rattle.std.specs.List.{list_any}
 use Rattle.std.proofs.lemmas.List.Elements.{Contains-append_cases, Contains-append_left, Contains-append_right}
 use Rattle.drum_order.proofs.Lists.{contains_cases, contains_here, contains_none, contains_there}
+use Rattle.drum_flow.specs.Taken.{is_among}
 use Rattle.drum_flow.proofs.Orders.{any_contains, contains_any}
-use Rattle.drum_check.specs.Among.{is_among}
 use Rattle.drum_check.specs.Insides.{AreHeads, GoesBack, HasOne, HasSeveralWays}
 use Rattle.drum_check.proofs.Ones.{one_cases, one_last, one_more}
 

@@ -14,10 +14,11 @@ use Rattle.drum_order.proofs.Lists.{contains_cases, contains_from_get, contains_
 use Rattle.drum_flow.specs.Executed.{with_new}
 use Rattle.drum_flow.proofs.Additions.{with_new_append}
 use Rattle.drum_flow.proofs.Orders.{any_contains, contains_any, with_new_different, with_new_has, with_new_only}
-use Rattle.drum_check.specs.declared.kept.Kept.{Kept}
-use Rattle.drum_check.specs.Findings.{Finding, not_loaded, not_in_profile, alters, too_large, closes, unused_mark}
-use Rattle.drum_check.specs.Findings.{unused_list, unused_call, idle, inside}
-use Rattle.drum_check.specs.Kept.{both_keep}
+use Rattle.drum_finding.specs.declared.unchanged_parts.UnchangedParts.{UnchangedParts}
+use Rattle.drum_finding.specs.Finding.{Finding, not_loaded, not_in_profile, alters, too_large}
+use Rattle.drum_finding.specs.Finding.{closes, unused_mark}
+use Rattle.drum_finding.specs.Finding.{unused_list, unused_call, idle, inside}
+use Rattle.drum_finding.specs.UnchangedParts.{both_keep}
 use Rattle.drum_check.specs.Lacking.{altered_word, kept_by_all, lacking_list, kept_in, stays, words_altered}
 use Rattle.drum_check.proofs.Nothing.{all_nothing, in_flat_map}
 
@@ -52,7 +53,7 @@ abbrev TellsNone : Finding → Type 0
 TellsNone finding = (altered_word finding ≡ []) × ((word : ℕ) → kept_in word finding ≡ [])
 
 abbrev Tells : Finding → Type 0
-Tells finding = (writer : ℕ) × (word : ℕ) × (kept : Kept) × (finding ≡ alters writer word kept)
+Tells finding = (writer : ℕ) × (word : ℕ) × (kept : UnchangedParts) × (finding ≡ alters writer word kept)
 
 none_or_one : (finding : Finding) → TellsNone finding ⊎ Tells finding
 none_or_one (not_loaded place) = inl (refl, λ word. refl)
@@ -67,10 +68,10 @@ none_or_one (idle place) = inl (refl, λ word. refl)
 none_or_one (inside inner outer) = inl (refl, λ word. refl)
 
 -- what is left of the word that a writer alters, and of another one
-leaves_it : (writer word : ℕ) (kept : Kept) → kept_in word (alters writer word kept) ≡ kept ∷ []
+leaves_it : (writer word : ℕ) (kept : UnchangedParts) → kept_in word (alters writer word kept) ≡ kept ∷ []
 leaves_it writer word kept = ap (λ (b : Bool). cond b (kept ∷ []) []) (eq-eqb word word refl)
 
-leaves_other : (writer word other : ℕ) (kept : Kept) → ¬ (other ≡ word) → kept_in other (alters writer word kept) ≡ []
+leaves_other : (writer word other : ℕ) (kept : UnchangedParts) → ¬ (other ≡ word) → kept_in other (alters writer word kept) ≡ []
 leaves_other writer word other kept different = go (eqb word other) refl
   where
     go : (b : Bool) → eqb word other ≡ b → cond (eqb word other) (kept ∷ []) [] ≡ []
@@ -91,7 +92,7 @@ none_left word before none =
 
 -- and one that some finding is about has some
 abbrev HasWriter : ℕ → List Finding → Type 0
-HasWriter word before = (kept : Kept) × (others : List Kept) × (flat_map (kept_in word) before ≡ kept ∷ others)
+HasWriter word before = (kept : UnchangedParts) × (others : List UnchangedParts) × (flat_map (kept_in word) before ≡ kept ∷ others)
 
 some_left : (word : ℕ) (before : List Finding) → Contains (flat_map altered_word before) word → HasWriter word before
 some_left word [] there = absurd (contains_none word there)
@@ -101,12 +102,12 @@ some_left word (finding ∷ before) there = elim (none_or_one finding) [
       (subst (λ (xs : List ℕ). Contains (xs ++ flat_map altered_word before) word) nothing.0 there) in (
         behind.0,
         behind.1,
-        ap (λ (ks : List Kept). ks ++ flat_map (kept_in word) before) (nothing.1 word) ∙ behind.2,
+        ap (λ (ks : List UnchangedParts). ks ++ flat_map (kept_in word) before) (nothing.1 word) ∙ behind.2,
       ))
   | inr tells ↦ one tells.0 tells.1 tells.2 tells.3 (eqb tells.1 word) refl (some_left word before)
 ]
   where
-    one : (writer at : ℕ) (kept : Kept) → finding ≡ alters writer at kept → (b : Bool) → eqb at word ≡ b
+    one : (writer at : ℕ) (kept : UnchangedParts) → finding ≡ alters writer at kept → (b : Bool) → eqb at word ≡ b
         → (Contains (flat_map altered_word before) word → HasWriter word before) → HasWriter word (finding ∷ before)
     one writer at kept is true e more = (
       kept,
@@ -127,7 +128,7 @@ some_left word (finding ∷ before) there = elim (none_or_one finding) [
         )
 
 -- one writer more behind some
-stays_more : (part : Kept → Option ℕ) (kept : Kept) (others : List Kept) (more : Kept)
+stays_more : (part : UnchangedParts → Option ℕ) (kept : UnchangedParts) (others : List UnchangedParts) (more : UnchangedParts)
     → stays part (kept ∷ (others ++ more ∷ [])) ≡ option_and (part more) (stays part (kept ∷ others))
 stays_more part kept others more =
     ap (λ (b : Bool). cond b (part kept) None) (list_all-append (λ one. is_some (part one)) others (more ∷ []))
@@ -139,22 +140,22 @@ stays_more part kept others more =
     go false (Some n) = refl
     go false None = refl
 
-all_more : (kept : Kept) (others : List Kept) (more : Kept)
+all_more : (kept : UnchangedParts) (others : List UnchangedParts) (more : UnchangedParts)
     → kept_by_all (kept ∷ (others ++ more ∷ [])) ≡ both_keep (kept_by_all (kept ∷ others)) more
 all_more kept others more =
     with_parts (stays_more (λ k. k.op) kept others more) (stays_more (λ k. k.d) kept others more)
     (stays_more (λ k. k.i) kept others more)
   where
     with_parts : {a b m n p q : Option ℕ} → a ≡ b → m ≡ n → p ≡ q
-        → ◌≡◌ {A = Kept} (record { op = a; d = m; i = p; loaded = kept.loaded })
+        → ◌≡◌ {A = UnchangedParts} (record { op = a; d = m; i = p; loaded = kept.loaded })
         (record { op = b; d = n; i = q; loaded = kept.loaded })
     with_parts e f g = rw (e, f, g) refl
 
 -- the words are those places
-pub at_places : (before : List Finding) → map (λ (lack : ℕ × Kept). lack.0) (words_altered before) ≡ places before
+pub at_places : (before : List Finding) → map (λ (lack : ℕ × UnchangedParts). lack.0) (words_altered before) ≡ places before
 at_places before = go (places before)
   where
-    go : (xs : List ℕ) → map (λ (lack : ℕ × Kept). lack.0) (map (lacking_list before) xs) ≡ xs
+    go : (xs : List ℕ) → map (λ (lack : ℕ × UnchangedParts). lack.0) (map (lacking_list before) xs) ≡ xs
     go [] = refl
     go (x ∷ xs) = ap (λ (ys : List ℕ). x ∷ ys) (go xs)
 
@@ -181,14 +182,14 @@ module _ (before : List Finding) (finding : Finding) where
       → flat_map (kept_in word) (before ++ finding ∷ []) ≡ flat_map (kept_in word) before ++ kept_in word finding
   leaves_more word =
       flat_map-append (kept_in word) before (finding ∷ [])
-      ∙ ap (λ (ks : List Kept). flat_map (kept_in word) before ++ ks) (append-nil (kept_in word finding))
+      ∙ ap (λ (ks : List UnchangedParts). flat_map (kept_in word) before ++ ks) (append-nil (kept_in word finding))
 
   -- of a word that the finding isn't about
   same_left : (word : ℕ) → kept_in word finding ≡ []
       → lacking_list (before ++ finding ∷ []) word ≡ lacking_list before word
   same_left word none =
-      ap (λ (ks : List Kept). (word, kept_by_all ks)) (leaves_more word
-      ∙ ap (λ (ks : List Kept). flat_map (kept_in word) before ++ ks) none ∙ append-nil (flat_map (kept_in word) before))
+      ap (λ (ks : List UnchangedParts). (word, kept_by_all ks)) (leaves_more word
+      ∙ ap (λ (ks : List UnchangedParts). flat_map (kept_in word) before ++ ks) none ∙ append-nil (flat_map (kept_in word) before))
 
   -- a finding that is about no word
   pub none_more : altered_word finding ≡ [] → ((word : ℕ) → kept_in word finding ≡ [])
@@ -198,7 +199,7 @@ module _ (before : List Finding) (finding : Finding) where
       ∙ map_alike (lacking_list (before ++ finding ∷ [])) (lacking_list before) (places before)
       (λ word there. same_left word (none word)))
 
-module _ (before : List Finding) (writer word : ℕ) (kept : Kept) (lacks : List (ℕ × Kept))
+module _ (before : List Finding) (writer word : ℕ) (kept : UnchangedParts) (lacks : List (ℕ × UnchangedParts))
     (are : lacks ≡ words_altered before) where
   abbrev after : List Finding
   after = before ++ alters writer word kept ∷ []
@@ -210,10 +211,10 @@ module _ (before : List Finding) (writer word : ℕ) (kept : Kept) (lacks : List
   it_left : flat_map (kept_in word) after ≡ flat_map (kept_in word) before ++ kept ∷ []
   it_left =
       leaves_more before (alters writer word kept) word
-      ∙ ap (λ (ks : List Kept). flat_map (kept_in word) before ++ ks) (leaves_it writer word kept)
+      ∙ ap (λ (ks : List UnchangedParts). flat_map (kept_in word) before ++ ks) (leaves_it writer word kept)
 
   -- one more that is about a word which is there
-  pub there_more : (k : ℕ) (d : ℕ × Kept) → slice_get (places before) k ≡ Some word
+  pub there_more : (k : ℕ) (d : ℕ × UnchangedParts) → slice_get (places before) k ≡ Some word
       → set lacks k (word, both_keep (get_or lacks k d).1 kept) ≡ words_altered after
   there_more k d at =
       let there : Contains (places before) word = contains_from_get (places before) k word at in
@@ -224,17 +225,17 @@ module _ (before : List Finding) (writer word : ℕ) (kept : Kept) (lacks : List
       let found : slice_get (words_altered before) k ≡ Some (lacking_list before word) =
       slice_get-map (lacking_list before) (places before) k ∙ ap (option_map (lacking_list before)) at in
       let was : get_or lacks k d ≡ lacking_list before word =
-      ap (λ (all : List (ℕ × Kept)). get_or all k d) are
+      ap (λ (all : List (ℕ × UnchangedParts)). get_or all k d) are
       ∙ get_or_from_slice_get (words_altered before) k (lacking_list before word) d found in
       let met : lacking_list after word ≡ (word, both_keep (get_or lacks k d).1 kept) =
-      ap (λ (ks : List Kept). (word, kept_by_all ks)) (it_left ∙ ap (λ (ks : List Kept). ks ++ kept ∷ []) some.2)
-      ∙ ap (λ (one : Kept). (word, one)) (all_more some.0 some.1 kept)
-      ∙ sym (ap (λ (lack : ℕ × Kept). (word, both_keep lack.1 kept)) (was
-      ∙ ap (λ (ks : List Kept). (word, kept_by_all ks)) some.2)) in
+      ap (λ (ks : List UnchangedParts). (word, kept_by_all ks)) (it_left ∙ ap (λ (ks : List UnchangedParts). ks ++ kept ∷ []) some.2)
+      ∙ ap (λ (one : UnchangedParts). (word, one)) (all_more some.0 some.1 kept)
+      ∙ sym (ap (λ (lack : ℕ × UnchangedParts). (word, both_keep lack.1 kept)) (was
+      ∙ ap (λ (ks : List UnchangedParts). (word, kept_by_all ks)) some.2)) in
       let same_places : places after ≡ places before =
       places_more before (alters writer word kept)
       ∙ ap (λ (b : Bool). cond b (places before) (places before ++ word ∷ [])) (contains_any (places before) word there) in
-      ap (λ (all : List (ℕ × Kept)). set all k (word, both_keep (get_or lacks k d).1 kept)) are
+      ap (λ (all : List (ℕ × UnchangedParts)). set all k (word, both_keep (get_or lacks k d).1 kept)) are
       ∙ ap (set (words_altered before) k) (sym met)
       ∙ set_alike (lacking_list before) (lacking_list after) (places before) k word (different before) at other_same
       ∙ sym (ap (map (lacking_list after)) same_places)
@@ -245,13 +246,13 @@ module _ (before : List Finding) (writer word : ℕ) (kept : Kept) (lacks : List
       let no_writer : flat_map (kept_in word) before ≡ [] =
       none_left word before (λ there. none (with_new_has [] (flat_map altered_word before) word there)) in
       let alone : lacking_list after word ≡ (word, kept) =
-      ap (λ (ks : List Kept). (word, kept_by_all ks)) (it_left ∙ ap (λ (ks : List Kept). ks ++ kept ∷ []) no_writer) in
+      ap (λ (ks : List UnchangedParts). (word, kept_by_all ks)) (it_left ∙ ap (λ (ks : List UnchangedParts). ks ++ kept ∷ []) no_writer) in
       let same_places : places after ≡ places before ++ word ∷ [] =
       places_more before (alters writer word kept) ∙ new_added (places before) word none in
-      ap (λ (all : List (ℕ × Kept)). all ++ (word, kept) ∷ []) are
-      ∙ ap (λ (all : List (ℕ × Kept)). all ++ (word, kept) ∷ []) (sym (map_alike (lacking_list after) (lacking_list before)
+      ap (λ (all : List (ℕ × UnchangedParts)). all ++ (word, kept) ∷ []) are
+      ∙ ap (λ (all : List (ℕ × UnchangedParts)). all ++ (word, kept) ∷ []) (sym (map_alike (lacking_list after) (lacking_list before)
       (places before)
       (λ other there. other_same other (λ e. none (subst (λ (z : ℕ). Contains (places before) z) e there)))))
-      ∙ ap (λ (lack : ℕ × Kept). map (lacking_list after) (places before) ++ lack ∷ []) (sym alone)
+      ∙ ap (λ (lack : ℕ × UnchangedParts). map (lacking_list after) (places before) ++ lack ∷ []) (sym alone)
       ∙ sym (ap (map (lacking_list after)) same_places
       ∙ map-append (lacking_list after) (places before) (word ∷ []))

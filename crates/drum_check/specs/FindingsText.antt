@@ -2,9 +2,9 @@
 -- plain decimal.
 use Rattle.std.specs.Prelude.{ℕ, List, ◌++◌, codes, decimal, flat_map}
 use Rattle.drum_core.specs.Numeral.{digits_of}
-use Rattle.drum_check.specs.Findings.{Finding, not_loaded, not_in_profile, alters, too_large}
-use Rattle.drum_check.specs.Findings.{closes, unused_mark, unused_list, unused_call, idle}
-use Rattle.drum_check.specs.Findings.{inside}
+use Rattle.drum_finding.specs.Finding.{Finding, not_loaded, not_in_profile, alters, too_large}
+use Rattle.drum_finding.specs.Finding.{closes, unused_mark, unused_list, unused_call, idle}
+use Rattle.drum_finding.specs.Finding.{inside}
 
 abbrev pub finding_text : Finding → List ℕ
 finding_text (not_loaded place) = codes "notloaded " ++ digits_of 4 place ++ codes "\n"

@@ -6,10 +6,10 @@ use Rattle.drum_flow.specs.declared.refusal.Refusal.{Refusal}
 use Rattle.drum_flow.specs.declared.refusal.Refusal.TheVariants.{Memory, NotLoaded, NotInProfile}
 use Rattle.drum_flow.specs.declared.refusal.Refusal.TheVariants.{HasCalls, TooMany, Alters}
 use Rattle.drum_flow.specs.declared.refusal.Refusal.TheVariants.{Unbounded, TooLarge}
-use Rattle.drum_check.specs.declared.kept.Kept.{Kept}
-use Rattle.drum_check.specs.declared.within.Within.{Within}
-use Rattle.drum_check.specs.Findings.{Finding, not_loaded, not_in_profile, alters, too_large}
-use Rattle.drum_check.specs.Findings.{closes}
+use Rattle.drum_finding.specs.declared.unchanged_parts.UnchangedParts.{UnchangedParts}
+use Rattle.drum_finding.specs.declared.within.Within.{Within}
+use Rattle.drum_finding.specs.Finding.{Finding, not_loaded, not_in_profile, alters, too_large}
+use Rattle.drum_finding.specs.Finding.{closes}
 
 abbrev pub BeginsWith : {X : Type 0} → List X → X → Type 0
 BeginsWith {X} found first = (others : List X) × (found ≡ first ∷ others)
@@ -21,7 +21,7 @@ IsFoundFirst (NotInProfile location op) found =
 IsFoundFirst HasCalls found = ⊥
 IsFoundFirst TooMany found = ⊥
 IsFoundFirst (Alters writer word) found =
-    (kept : Kept) × BeginsWith found (alters writer.number word.number kept)
+    (kept : UnchangedParts) × BeginsWith found (alters writer.number word.number kept)
 IsFoundFirst (TooLarge product) found = BeginsWith found (too_large product)
 IsFoundFirst (Unbounded cycle) found =
     (edge : ℕ × ℕ) × (mark : Within) × BeginsWith found (closes edge mark)

@@ -8,23 +8,17 @@ use Rattle.drum_times.specs.Allowed.{Notes}
 use Rattle.drum_times.specs.Edges.{leads}
 use Rattle.drum_times.specs.Marks.{edges_of}
 use Rattle.drum_flow.specs.Hops.{Node}
+use Rattle.drum_flow.specs.Taken.{is_among}
 use Rattle.drum_loops.specs.Nested.{IsNested}
-use Rattle.drum_check.specs.declared.within.Within.{Within}
-use Rattle.drum_check.specs.declared.within.Within.TheVariants as within
-use Rattle.drum_check.specs.Among.{has_edge, is_among, AreThose}
-use Rattle.drum_check.specs.Finding.{Finding, closes}
-
--- the marks of notes, in order
-abbrev pub marks_of : Notes → List (List (ℕ × ℕ))
-marks_of notes = map edges_of notes.marks
-
--- their edges
-abbrev pub marked_edges : Notes → List (ℕ × ℕ)
-marked_edges notes = flat_map edges_of notes.marks
+use Rattle.drum_finding.specs.declared.within.Within.{Within}
+use Rattle.drum_finding.specs.declared.within.Within.TheVariants as within
+use Rattle.drum_finding.specs.Edges.{has_edge}
+use Rattle.drum_finding.specs.Finding.{Finding, closes}
+use Rattle.drum_check.specs.Those.{AreThose}
 
 -- The loop that the inner edge closes stands inside the one that the outer edge closes, and the
 -- flow graph has both edges.
-pub record StandsInside (loads : ℕ → Option Word) (notes : Notes) (start : ℕ)
+pub record IsLoopInside (loads : ℕ → Option Word) (notes : Notes) (start : ℕ)
     (nodes : List Node) (outer inner : ℕ × ℕ) : Type 0 where
   pub there : has_edge loads notes nodes outer.0 outer.1 ≡ true
   pub here : has_edge loads notes nodes inner.0 inner.1 ≡ true
@@ -176,7 +170,7 @@ abbrev pub AreLoops : (ℕ → Option Word) → Notes → ℕ → List Node → 
     → Type 0
 AreLoops loads notes start nodes edges loops =
     ((length (marked_edges notes) + length edges ≤ 64)
-    × AreFewestFirst (StandsInside loads notes start nodes) edges
-    × AreToldApart (StandsInside loads notes start nodes) notes edges loops)
+    × AreFewestFirst (IsLoopInside loads notes start nodes) edges
+    × AreToldApart (IsLoopInside loads notes start nodes) notes edges loops)
     ⊎ ((64 < length (marked_edges notes) + length edges)
     × (loops ≡ map (λ edge. closes edge within.Run) edges))

@@ -1,6 +1,6 @@
 -- What is known of which loops stand inside which others, as it is held.
 use Rattle.std.specs.Prelude.{◌≡◌, ◌↔◌, All, IsTrue, length}
-use Rattle.drum_deck.specs.Loads.{loads_in}
+use Rattle.drum_deck.specs.InDeck.{loads_in}
 use Rattle.drum_times.specs.EdgeOf.{edge_of}
 use Rattle.drum_order.specs.declared.graph.Graph.{Graph}
 use Rattle.drum_order.specs.Graph.{row, size}

@@ -11,12 +11,12 @@ use Rattle.drum_core.specs.Word.{spelling}
 use Rattle.drum_times.specs.Allowed.{Notes}
 use Rattle.drum_times.specs.Short.{is_short}
 use Rattle.drum_flow.specs.Executed.{with_new}
-use Rattle.drum_check.specs.declared.kept.Kept.{Kept}
-use Rattle.drum_check.specs.declared.within.Within.{Within}
-use Rattle.drum_check.specs.declared.within.Within.TheVariants as within
-use Rattle.drum_check.specs.Findings.{Finding, alters, closes}
+use Rattle.drum_finding.specs.declared.unchanged_parts.UnchangedParts.{UnchangedParts}
+use Rattle.drum_finding.specs.declared.within.Within.{Within}
+use Rattle.drum_finding.specs.declared.within.Within.TheVariants as within
+use Rattle.drum_finding.specs.Finding.{Finding, alters, closes}
+use Rattle.drum_finding.specs.Shared.{asks_for_mark, asks_to_share, is_shared, shared_onto}
 use Rattle.drum_check.specs.FindingsText.{findings_text}
-use Rattle.drum_check.specs.Shared.{asks_for_mark, asks_to_share, is_shared, shared_onto}
 
 -- the word that a finding says is altered
 abbrev pub altered_word : Finding → List ℕ
@@ -24,23 +24,23 @@ altered_word (alters writer word kept) = word ∷ []
 altered_word _ = []
 
 -- what a finding says that a writer of the word keeps of it
-abbrev pub kept_in : ℕ → Finding → List Kept
+abbrev pub kept_in : ℕ → Finding → List UnchangedParts
 kept_in word (alters writer other kept) = if other == word then kept ∷ [] else []
 kept_in word _ = []
 
 -- a part that all of some writers keep
-abbrev pub stays : (Kept → Option ℕ) → List Kept → Option ℕ
+abbrev pub stays : (UnchangedParts → Option ℕ) → List UnchangedParts → Option ℕ
 stays part [] = None
 stays part (kept ∷ others) =
     if list_all (λ other. is_some (part other)) others then part kept else None
 
 -- the word as it is loaded, which is the same for all of its writers
-abbrev pub loaded_by : List Kept → Option Word
+abbrev pub loaded_by : List UnchangedParts → Option Word
 loaded_by [] = None
 loaded_by (kept ∷ others) = kept.loaded
 
 -- what they all keep
-abbrev pub kept_by_all : List Kept → Kept
+abbrev pub kept_by_all : List UnchangedParts → UnchangedParts
 kept_by_all all = record {
   op = stays (λ kept. kept.op) all;
   d = stays (λ kept. kept.d) all;
@@ -49,11 +49,11 @@ kept_by_all all = record {
 }
 
 -- a word that is altered, with what all of its writers keep of it
-abbrev pub lacking_list : List Finding → ℕ → ℕ × Kept
+abbrev pub lacking_list : List Finding → ℕ → ℕ × UnchangedParts
 lacking_list findings word = (word, kept_by_all (flat_map (kept_in word) findings))
 
 -- those of all words, each once, in order
-abbrev pub words_altered : List Finding → List (ℕ × Kept)
+abbrev pub words_altered : List Finding → List (ℕ × UnchangedParts)
 words_altered findings =
     map (lacking_list findings) (with_new [] (flat_map altered_word findings))
 
@@ -108,7 +108,7 @@ abbrev pub gap : Option ℕ → List ℕ
 gap None = []
 gap (Some n) = codes " "
 
-abbrev pub pattern_text : Kept → List ℕ
+abbrev pub pattern_text : UnchangedParts → List ℕ
 pattern_text kept =
     codes "pattern = [{ op = " ++ part_text kept.op ++ codes ", d_from = " ++ part_text kept.d
     ++ codes ", d_to = " ++ part_text kept.d ++ codes ", i = " ++ part_text kept.i
@@ -119,7 +119,7 @@ abbrev pub comment_text : Option Word → List ℕ
 comment_text None = codes "\n"
 comment_text (Some word) = codes " # loaded: " ++ spelling word ++ codes "\n"
 
-abbrev pub list_text : ℕ × Kept → List ℕ
+abbrev pub list_text : ℕ × UnchangedParts → List ℕ
 list_text lack =
     codes "[[list]]\nlocation = " ++ decimal lack.0 ++ codes "\n" ++ pattern_text lack.1
     ++ comment_text lack.1.loaded

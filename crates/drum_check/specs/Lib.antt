@@ -1,14 +1,9 @@
-pub mod Among
-pub mod Finding
 pub mod Findings
 pub mod FindingsOf
 pub mod FindingsText
 pub mod First
-pub mod Idle
 pub mod Insides
-pub mod Kept
 pub mod KnownInside
 pub mod Lacking
 pub mod LackingOf
-pub mod NamedOf
-pub mod Shared
+pub mod Those

@@ -1,19 +1,16 @@
 ghost use Rattle.std.specs.Prelude.{◌≤◌, vec_len};
 
-use crate::altered::altered_at;
-use crate::calls::unused_calls;
-use crate::edges::{has_edge, is_executed};
-use crate::finding::Finding;
-use crate::idle::idle_words;
-use crate::kept::Kept;
 use crate::lengths::are_long;
 use crate::loops::unmarked_loops;
-use crate::operations::operations_outside;
 use crate::unsaid::unsaid_marks;
 use drum_acceptance::counts::product_of;
 use drum_acceptance::fixed::Fixed;
 use drum_core::Location;
 use drum_deck::Deck;
+use drum_finding::{
+    Finding, UnchangedParts, altered_at, has_edge, idle_words, is_executed, operations_outside,
+    unused_calls,
+};
 use drum_flow::place::{is_listed, is_there};
 use drum_flow::{Flow, Refusal, discover};
 use drum_times::{Edge, Mark, Notes};
@@ -21,7 +18,7 @@ use std::alloc::{AllocError, Global};
 
 /// The most findings that are held, more than any deck has: of each two of the 2,004 locations
 /// there may be an altered word, a loop and an unused edge, and few others of each location.
-const LIMIT: usize = 1 << 24;
+const MOST_FINDINGS: usize = 1 << 24;
 
 /// The most that executed words times counts may be.
 const PRODUCT_LIMIT: u128 = 4_000_000;
@@ -40,18 +37,21 @@ impl Findings {
     ghost use Rattle.std.specs.Prelude.{IsTrue, IfErr, IfOk, OnOk};
     ghost use Rattle.std.specs.List.{list_all, range_with_len};
     ghost use Rattle.drum_core.specs.Location.{IsLocation};
-    ghost use Rattle.drum_deck.specs.Loads.{loads_in, start_in};
+    ghost use Rattle.drum_deck.specs.InDeck.{loads_in, start_in};
     ghost use Rattle.drum_times.specs.EdgeOf.{edge_of};
     ghost use Rattle.drum_flow.specs.Accepted as said;
     ghost use Rattle.drum_flow.specs.Executed.{AreAllNodes};
     ghost use Rattle.drum_flow.specs.Flow.{executed_in, nodes_of, of_flow, AreFound};
     ghost use Rattle.drum_flow.specs.Refused.{IsDiscoveryRefusal};
-    ghost use Rattle.drum_check.specs.Findings.{not_there, unfit, altering, too_many};
-    ghost use Rattle.drum_check.specs.Findings.{astray, may_be_meant, missing, unused};
-    ghost use Rattle.drum_check.specs.Findings.{unused_list_at};
-    ghost use Rattle.drum_check.specs.Findings.{not_in_profile, alters, AreFindings};
-    ghost use Rattle.drum_check.specs.FindingsOf.{AreFixed, seen, found_in, is_long_in};
-    ghost use Rattle.drum_check.specs.Kept.{kept_of};
+    ghost use Rattle.drum_finding.specs.FoundAt.{not_there, unfit, altering, too_many};
+    ghost use Rattle.drum_finding.specs.Finding.{may_be_meant};
+    ghost use Rattle.drum_finding.specs.FoundAt.{astray, missing, unused};
+    ghost use Rattle.drum_finding.specs.FoundAt.{unused_list_at};
+    ghost use Rattle.drum_finding.specs.Finding.{not_in_profile, alters};
+    ghost use Rattle.drum_finding.specs.FindingOf.{AreFixed, seen};
+    ghost use Rattle.drum_finding.specs.UnchangedParts.{kept_of};
+    ghost use Rattle.drum_check.specs.Findings.{AreFindings};
+    ghost use Rattle.drum_check.specs.FindingsOf.{found_in, is_long_in};
     ghost use Rattle.drum_check.specs.Lacking as lacking;
 
     /// None yet.
@@ -68,7 +68,7 @@ impl Findings {
     fn add(&mut self, finding: Finding) -> Result<(), AllocError>
         ensures { OnOk result (found_in self.new ≡ found_in self.old ++ seen finding ∷ []) }
     {
-        if self.all.len() == LIMIT {
+        if self.all.len() == MOST_FINDINGS {
             return Err(AllocError);
         }
         self.all.push(finding)?;
@@ -118,7 +118,7 @@ impl Findings {
             self.add(Finding::Alters {
                 writer,
                 word: *word,
-                kept: Kept::of(flow.deck(), flow.notes(), writer, *word),
+                kept: UnchangedParts::of(flow.deck(), flow.notes(), writer, *word),
             })?;
         }
         Ok(())

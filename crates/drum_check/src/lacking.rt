@@ -1,17 +1,16 @@
 ghost use Rattle.std.specs.Prelude.{◌≤◌, vec_len};
 
-use crate::finding::Finding;
 use crate::findings::Findings;
-use crate::kept::Kept;
 use drum_core::Location;
-use drum_flow::executed::Executed;
+use drum_finding::{Finding, UnchangedParts};
+use drum_flow::location_set::LocationSet;
 use std::alloc::{AllocError, Global};
 
 /// A word that lacks a list, with what all of its writers keep of it.
 #[derive(Clone, Copy, Debug)]
 pub(crate) struct Lack {
     pub(crate) word: Location,
-    pub(crate) kept: Kept,
+    pub(crate) kept: UnchangedParts,
 }
 
 /// The words that lack a list: those that are altered, each once, in the order in which they were
@@ -25,9 +24,10 @@ pub struct Lacking {
 impl Lacking {
     ghost use Rattle.std.specs.Prelude.{◌≡◌, ◌++◌, [], ◌∷◌, ℕ, List, map, IfOk, OnOk};
     ghost use Rattle.drum_flow.specs.Found.{places_of};
-    ghost use Rattle.drum_check.specs.Findings as said;
-    ghost use Rattle.drum_check.specs.Findings.{alters};
-    ghost use Rattle.drum_check.specs.FindingsOf.{found_in, seen};
+    ghost use Rattle.drum_finding.specs.Finding as said;
+    ghost use Rattle.drum_finding.specs.Finding.{alters};
+    ghost use Rattle.drum_finding.specs.FindingOf.{seen};
+    ghost use Rattle.drum_check.specs.FindingsOf.{found_in};
     ghost use Rattle.drum_check.specs.Lacking.{words_altered};
     ghost use Rattle.drum_check.specs.LackingOf.{pair_of, words_in};
 
@@ -40,7 +40,7 @@ impl Lacking {
         ensures { IfOk result (λ lacking. words_in lacking
             ≡ words_altered (found_in findings.now)) }
     {
-        let mut places = Executed::none(alloc);
+        let mut places = LocationSet::none(alloc);
         let mut words = Vec::new(alloc);
         for finding in &findings.all {
             Lacking::add(&mut places, &mut words, finding)?;
@@ -51,7 +51,7 @@ impl Lacking {
     /// Adds the word that a finding says is altered, with what is kept of it; of one that is there,
     /// what this writer keeps too stays. The words have these indices.
     fn add(
-        places: &mut Executed,
+        places: &mut LocationSet,
         words: &mut Vec<Lack>,
         finding: &Finding,
     ) -> Result<(), AllocError>
@@ -71,10 +71,10 @@ impl Lacking {
 
     /// Adds a word, with what a writer keeps of it.
     fn add_word(
-        places: &mut Executed,
+        places: &mut LocationSet,
         words: &mut Vec<Lack>,
         word: Location,
-        kept: Kept,
+        kept: UnchangedParts,
     ) -> Result<(), AllocError>
         requires same { places_of places.old ≡ map (λ lack. lack.word.number) words.old.items }
         ensures same { OnOk result (places_of places.new

@@ -10,7 +10,8 @@ ghost use Rattle.drum_flow.specs.Executed.{AreAllNodes};
 ghost use Rattle.drum_flow.specs.Flow.{AreFound};
 ghost use Rattle.drum_flow.specs.Hops.{Node};
 ghost use Rattle.drum_acceptance.specs.Acceptance.{IsAdmissionRefusal, IsRefusal};
-ghost use Rattle.drum_check.specs.Findings.{AreFindings, AreLooseEnds, Finding};
+ghost use Rattle.drum_finding.specs.Finding.{Finding};
+ghost use Rattle.drum_check.specs.Findings.{AreFindings, AreLooseEnds};
 ghost use Rattle.drum_check.specs.First.{IsFoundFirst};
 
 /// Nothing is found but loose ends of the notes exactly where the deck with its notes is accepted,

@@ -2,11 +2,11 @@
 
 ghost use Rattle.std.specs.Prelude.{◌≡◌, ◌+◌, ◌<◌, ◌↔◌, IsTrue, map};
 ghost use Rattle.std.specs.List.{list_any};
-ghost use Rattle.drum_check.specs.FindingsOf.{seen};
+ghost use Rattle.drum_finding.specs.FindingOf.{seen};
+ghost use Rattle.drum_finding.specs.Shared.{asks_to_share};
 ghost use Rattle.drum_check.specs.Lacking as said;
-ghost use Rattle.drum_check.specs.Shared.{asks_to_share};
 
-use crate::finding::Finding;
+use drum_finding::Finding;
 use drum_times::{Mark, Notes};
 
 /// How many marks are lacking.

@@ -2,14 +2,15 @@
 
 ghost use Rattle.std.specs.Prelude.{◌≡◌, ◌+◌, ◌^◌, ◌≤◌, ◌++◌, codes, decimal, IfOk, length};
 ghost use Rattle.drum_core.specs.Numeral.{digits_of};
-ghost use Rattle.drum_lines.specs.Sent.{IsSent, fails_by};
-ghost use Rattle.drum_check.specs.FindingsOf.{seen, found_in};
+ghost use Rattle.drum_lines.specs.Sent.{IsSent, failed_writes};
+ghost use Rattle.drum_finding.specs.FindingOf.{seen};
+ghost use Rattle.drum_check.specs.FindingsOf.{found_in};
 ghost use Rattle.drum_check.specs.FindingsText.{finding_text, findings_text};
 
-use crate::finding::Finding;
 use crate::findings::Findings;
 use drum_core::Location;
 use drum_devices::Output;
+use drum_finding::Finding;
 use drum_lines::{WriteFault, four_digits, send, two_digits};
 use drum_times::Edge;
 use itoa::Buffer;
@@ -26,7 +27,7 @@ fn send_location<O: Output>(
     requires short { length name.now ≤ 20 }
     ensures sent { IsSent (O.written writer.old) (O.written writer.new) sent result
         (name.now ++ digits_of 4 location.number ++ codes "\n") }
-    ensures failures { O.failed writer.new ≡ O.failed writer.old + fails_by result }
+    ensures failures { O.failed writer.new ≡ O.failed writer.old + failed_writes result }
     ensures calls { O.called writer.new ≤ O.called writer.old + 80 }
     ensures few { IfOk result (λ total. total ≤ sent + 80) }
 {
@@ -49,7 +50,7 @@ fn send_behind<O: Output>(
     requires digits { length behind.now ≤ 20 }
     ensures sent { IsSent (O.written writer.old) (O.written writer.new) sent result
         (name.now ++ digits_of 4 location.number ++ codes " " ++ behind.now ++ codes "\n") }
-    ensures failures { O.failed writer.new ≡ O.failed writer.old + fails_by result }
+    ensures failures { O.failed writer.new ≡ O.failed writer.old + failed_writes result }
     ensures calls { O.called writer.new ≤ O.called writer.old + 80 }
     ensures few { IfOk result (λ total. total ≤ sent + 80) }
 {
@@ -70,7 +71,7 @@ fn send_number<O: Output>(
     requires short { length name.now ≤ 20 }
     ensures sent { IsSent (O.written writer.old) (O.written writer.new) sent result
         (name.now ++ decimal number ++ codes "\n") }
-    ensures failures { O.failed writer.new ≡ O.failed writer.old + fails_by result }
+    ensures failures { O.failed writer.new ≡ O.failed writer.old + failed_writes result }
     ensures calls { O.called writer.new ≤ O.called writer.old + 80 }
     ensures few { IfOk result (λ total. total ≤ sent + 80) }
 {
@@ -94,7 +95,7 @@ fn send_edges<O: Output>(
         (name.now ++ digits_of 4 first.from.number ++ codes " " ++ digits_of 4 first.onto.number
         ++ codes " " ++ digits_of 4 second.from.number ++ codes " "
         ++ digits_of 4 second.onto.number ++ codes "\n") }
-    ensures failures { O.failed writer.new ≡ O.failed writer.old + fails_by result }
+    ensures failures { O.failed writer.new ≡ O.failed writer.old + failed_writes result }
     ensures calls { O.called writer.new ≤ O.called writer.old + 80 }
     ensures few { IfOk result (λ total. total ≤ sent + 80) }
 {
@@ -127,7 +128,7 @@ fn send_finding<O: Output>(
     requires few { sent ≤ 2 ^ 60 }
     ensures sent { IsSent (O.written writer.old) (O.written writer.new) sent result
         (finding_text (seen finding.now)) }
-    ensures failures { O.failed writer.new ≡ O.failed writer.old + fails_by result }
+    ensures failures { O.failed writer.new ≡ O.failed writer.old + failed_writes result }
     ensures calls { O.called writer.new ≤ O.called writer.old + 80 }
     ensures few { IfOk result (λ total. total ≤ sent + 80) }
 {
@@ -168,7 +169,7 @@ pub fn send_findings<O: Output>(writer: &mut O, findings: &Findings) -> Result<u
     requires { O.called writer.old ≤ 2 ^ 62 }
     ensures sent { IsSent (O.written writer.old) (O.written writer.new) 0 result
         (findings_text (found_in findings.now)) }
-    ensures failures { O.failed writer.new ≡ O.failed writer.old + fails_by result }
+    ensures failures { O.failed writer.new ≡ O.failed writer.old + failed_writes result }
     ensures calls { O.called writer.new ≤ O.called writer.old + 2 ^ 50 }
     ensures few { IfOk result (λ total. total ≤ 2 ^ 50) }
 {

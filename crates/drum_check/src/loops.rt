@@ -3,26 +3,25 @@
 
 ghost use Rattle.std.specs.Prelude.{◌≡◌, ◌++◌, ◌+◌, ◌<◌, ◌↔◌, [], ℕ, List, map, All, IfOk};
 ghost use Rattle.std.specs.Prelude.{IsPermutation, IsTrue};
+ghost use Rattle.drum_times.specs.EdgeOf.{edge_of};
 ghost use Rattle.drum_flow.specs.Executed.{AreAllNodes};
 ghost use Rattle.drum_flow.specs.Flow.{executed_in, nodes_of, of_flow, AreFound};
-ghost use Rattle.drum_times.specs.EdgeOf.{edge_of};
 ghost use Rattle.drum_loops.specs.Loops.{AreClosing};
-ghost use Rattle.drum_check.specs.Findings.{closes};
-ghost use Rattle.drum_check.specs.FindingsOf.{seen, IsInsideIn};
+ghost use Rattle.drum_finding.specs.Finding.{closes};
+ghost use Rattle.drum_finding.specs.FindingOf.{seen};
+ghost use Rattle.drum_finding.specs.declared.within.Within.TheVariants as within;
+ghost use Rattle.drum_check.specs.FindingsOf.{IsInsideIn};
 ghost use Rattle.drum_check.specs.KnownInside.{AreKnown};
 ghost use Rattle.drum_check.specs.Insides as said;
 ghost use Rattle.drum_check.specs.Insides.{AreLoops, AreFewestFirst, AreSoMany, AreToldInside};
 ghost use Rattle.drum_check.specs.Insides.{AreToldApart, IsTold, IsToldBehind, IsWithin};
-ghost use Rattle.drum_check.specs.declared.within.Within.TheVariants as within;
 
-use crate::edges::{marked_edges, marks_of};
-use crate::finding::Finding;
 use crate::nested::{last_round, loops_round};
 use crate::nesting::Nesting;
 use crate::several::has_several_ways;
 use crate::sharing::{add_new_mark, all_marks, begins, mark_on, shared_heads};
-use crate::within::Within;
 use drum_core::Location;
+use drum_finding::{Finding, Within, marked_edges, marks_of};
 use drum_flow::Flow;
 use drum_loops::closing_edges;
 use drum_times::{Edge, Edges};

@@ -4,21 +4,21 @@
 ghost use Rattle.std.specs.Prelude.{◌≡◌, ◌+◌, ◌^◌, ◌≤◌, ◌++◌, codes, length, IfOk, flat_map};
 ghost use Rattle.std.specs.Prelude.{is_some, map};
 ghost use Rattle.std.specs.List.{list_any};
-ghost use Rattle.drum_lines.specs.Sent.{IsSent, fails_by};
 ghost use Rattle.drum_times.specs.EdgeOf.{edge_of};
-ghost use Rattle.drum_check.specs.declared.within.Within.TheVariants as within;
-ghost use Rattle.drum_check.specs.FindingsOf.{seen, found_in};
+ghost use Rattle.drum_lines.specs.Sent.{IsSent, failed_writes};
+ghost use Rattle.drum_finding.specs.declared.within.Within.TheVariants as within;
+ghost use Rattle.drum_finding.specs.FindingOf.{seen};
+ghost use Rattle.drum_finding.specs.Shared.{asks_to_share, shared_onto};
+ghost use Rattle.drum_check.specs.FindingsOf.{found_in};
 ghost use Rattle.drum_check.specs.Lacking.{alone_text, edges_text, further_text, long_text};
 ghost use Rattle.drum_check.specs.Lacking.{mark_for, mark_text, marks_text, pair_text};
 ghost use Rattle.drum_check.specs.Lacking.{several_text, within_text};
-ghost use Rattle.drum_check.specs.Shared.{asks_to_share, shared_onto};
 
-use crate::finding::Finding;
 use crate::findings::Findings;
 use crate::lengths::one_is_shared;
-use crate::within::Within;
 use drum_core::Location;
 use drum_devices::Output;
+use drum_finding::{Finding, Within};
 use drum_lines::{WriteFault, send};
 use drum_times::Edge;
 use itoa::Buffer;
@@ -30,7 +30,7 @@ fn send_alone<O: Output>(writer: &mut O, sent: usize, edge: Edge) -> Result<usiz
     requires few { sent ≤ 2 ^ 61 }
     ensures sent { IsSent (O.written writer.old) (O.written writer.new) sent result
         (alone_text (edge_of edge)) }
-    ensures failures { O.failed writer.new ≡ O.failed writer.old + fails_by result }
+    ensures failures { O.failed writer.new ≡ O.failed writer.old + failed_writes result }
     ensures calls { O.called writer.new ≤ O.called writer.old + 100 }
     ensures few { IfOk result (λ total. total ≤ sent + 100) }
 {
@@ -58,7 +58,7 @@ fn send_pair<O: Output>(
     requires short { length before.now ≤ 20 }
     ensures sent { IsSent (O.written writer.old) (O.written writer.new) sent result
         (before.now ++ pair_text (edge_of edge)) }
-    ensures failures { O.failed writer.new ≡ O.failed writer.old + fails_by result }
+    ensures failures { O.failed writer.new ≡ O.failed writer.old + failed_writes result }
     ensures calls { O.called writer.new ≤ O.called writer.old + 100 }
     ensures few { IfOk result (λ total. total ≤ sent + 100) }
 {
@@ -87,7 +87,7 @@ fn send_further<O: Output>(
     requires few { sent ≤ 2 ^ 61 }
     ensures sent { IsSent (O.written writer.old) (O.written writer.new) sent result
         (further_text head.number (seen finding.now)) }
-    ensures failures { O.failed writer.new ≡ O.failed writer.old + fails_by result }
+    ensures failures { O.failed writer.new ≡ O.failed writer.old + failed_writes result }
     ensures calls { O.called writer.new ≤ O.called writer.old + 100 }
     ensures few { IfOk result (λ total. total ≤ sent + 100) }
 {
@@ -108,7 +108,7 @@ fn send_all_further<O: Output>(
     requires few { begun ≤ 2 ^ 60 }
     ensures sent { IsSent (O.written writer.old) (O.written writer.new) begun result
         (flat_map (further_text head.number) (found_in findings.now)) }
-    ensures failures { O.failed writer.new ≡ O.failed writer.old + fails_by result }
+    ensures failures { O.failed writer.new ≡ O.failed writer.old + failed_writes result }
     ensures calls { O.called writer.new ≤ O.called writer.old + 2 ^ 31 }
     ensures few { IfOk result (λ total. total ≤ begun + 2 ^ 31) }
 {
@@ -130,7 +130,7 @@ fn send_several<O: Output>(
     requires few { sent ≤ 2 ^ 59 }
     ensures sent { IsSent (O.written writer.old) (O.written writer.new) sent result
         (several_text (found_in findings.now) (edge_of edge)) }
-    ensures failures { O.failed writer.new ≡ O.failed writer.old + fails_by result }
+    ensures failures { O.failed writer.new ≡ O.failed writer.old + failed_writes result }
     ensures calls { O.called writer.new ≤ O.called writer.old + 2 ^ 32 }
     ensures few { IfOk result (λ total. total ≤ sent + 2 ^ 32) }
 {
@@ -170,7 +170,7 @@ fn send_edges<O: Output>(
     requires shared { shared ≡ list_any asks_to_share (found_in findings.now) }
     ensures sent { IsSent (O.written writer.old) (O.written writer.new) sent result
         (edges_text (found_in findings.now) (edge_of edge)) }
-    ensures failures { O.failed writer.new ≡ O.failed writer.old + fails_by result }
+    ensures failures { O.failed writer.new ≡ O.failed writer.old + failed_writes result }
     ensures calls { O.called writer.new ≤ O.called writer.old + 2 ^ 32 }
     ensures few { IfOk result (λ total. total ≤ sent + 2 ^ 32) }
 {
@@ -186,7 +186,7 @@ fn send_inside<O: Output>(writer: &mut O, sent: usize, mark: usize) -> Result<us
     requires few { sent ≤ 2 ^ 61 }
     ensures sent { IsSent (O.written writer.old) (O.written writer.new) sent result
         (within_text (within.Mark mark)) }
-    ensures failures { O.failed writer.new ≡ O.failed writer.old + fails_by result }
+    ensures failures { O.failed writer.new ≡ O.failed writer.old + failed_writes result }
     ensures calls { O.called writer.new ≤ O.called writer.old + 100 }
     ensures few { IfOk result (λ total. total ≤ sent + 100) }
 {
@@ -206,7 +206,7 @@ fn send_within<O: Output>(writer: &mut O, sent: usize, within: Within) -> Result
     requires few { sent ≤ 2 ^ 61 }
     ensures sent { IsSent (O.written writer.old) (O.written writer.new) sent result
         (within_text within) }
-    ensures failures { O.failed writer.new ≡ O.failed writer.old + fails_by result }
+    ensures failures { O.failed writer.new ≡ O.failed writer.old + failed_writes result }
     ensures calls { O.called writer.new ≤ O.called writer.old + 100 }
     ensures few { IfOk result (λ total. total ≤ sent + 100) }
 {
@@ -237,7 +237,7 @@ fn send_mark<O: Output>(
     requires shared { shared ≡ list_any asks_to_share (found_in findings.now) }
     ensures sent { IsSent (O.written writer.old) (O.written writer.new) sent result
         (mark_text (found_in findings.now) (edge_of edge) within) }
-    ensures failures { O.failed writer.new ≡ O.failed writer.old + fails_by result }
+    ensures failures { O.failed writer.new ≡ O.failed writer.old + failed_writes result }
     ensures calls { O.called writer.new ≤ O.called writer.old + 2 ^ 33 }
     ensures few { IfOk result (λ total. total ≤ sent + 2 ^ 33) }
 {
@@ -259,7 +259,7 @@ fn send_mark_for<O: Output>(
     requires shared { shared ≡ list_any asks_to_share (found_in findings.now) }
     ensures sent { IsSent (O.written writer.old) (O.written writer.new) sent result
         (mark_for (found_in findings.now) (seen finding.now)) }
-    ensures failures { O.failed writer.new ≡ O.failed writer.old + fails_by result }
+    ensures failures { O.failed writer.new ≡ O.failed writer.old + failed_writes result }
     ensures calls { O.called writer.new ≤ O.called writer.old + 2 ^ 33 }
     ensures few { IfOk result (λ total. total ≤ sent + 2 ^ 33) }
 {
@@ -284,7 +284,7 @@ pub fn send_marks<O: Output>(
     requires few { begun ≤ 2 ^ 51 }
     ensures sent { IsSent (O.written writer.old) (O.written writer.new) begun result
         (marks_text (found_in findings.now)) }
-    ensures failures { O.failed writer.new ≡ O.failed writer.old + fails_by result }
+    ensures failures { O.failed writer.new ≡ O.failed writer.old + failed_writes result }
     ensures calls { O.called writer.new ≤ O.called writer.old + 2 ^ 57 }
     ensures few { IfOk result (λ total. total ≤ begun + 2 ^ 57) }
 {
@@ -302,7 +302,7 @@ pub fn send_long<O: Output>(writer: &mut O, sent: usize, long: bool) -> Result<u
     requires few { sent ≤ 2 ^ 60 }
     ensures sent { IsSent (O.written writer.old) (O.written writer.new) sent result
         (long_text long) }
-    ensures failures { O.failed writer.new ≡ O.failed writer.old + fails_by result }
+    ensures failures { O.failed writer.new ≡ O.failed writer.old + failed_writes result }
     ensures calls { O.called writer.new ≤ O.called writer.old + 100 }
     ensures few { IfOk result (λ total. total ≤ sent + 100) }
 {

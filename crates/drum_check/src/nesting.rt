@@ -5,10 +5,10 @@ ghost use Rattle.drum_times.specs.EdgeOf.{edge_of};
 ghost use Rattle.drum_check.specs.FindingsOf.{IsInsideIn};
 ghost use Rattle.drum_check.specs.KnownInside.{AreLinksOf, IsKnown};
 
-use crate::edges::has_edge;
+use drum_finding::has_edge;
 use drum_flow::Flow;
 use drum_loops::{is_nested, link_graph};
-use drum_order::graph::Graph;
+use drum_order::Graph;
 use drum_times::Edge;
 use std::alloc::{AllocError, Global};
 

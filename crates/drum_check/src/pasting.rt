@@ -2,19 +2,19 @@
 
 ghost use Rattle.std.specs.Prelude.{◌≡◌, ◌+◌, ◌^◌, ◌≤◌, ◌++◌, codes, decimal, IfOk, flat_map};
 ghost use Rattle.std.specs.Prelude.{length};
-ghost use Rattle.drum_lines.specs.Sent.{IsSent, IsWritten, fails_by};
+ghost use Rattle.drum_lines.specs.Sent.{IsSent, IsWritten, failed_writes};
 ghost use Rattle.drum_check.specs.FindingsOf.{found_in, is_long_in};
 ghost use Rattle.drum_check.specs.Lacking.{check_text, comment_text, gap, list_text, part_text};
 ghost use Rattle.drum_check.specs.Lacking.{pattern_text, words_altered};
 ghost use Rattle.drum_check.specs.LackingOf.{pair_of, words_in};
 
 use crate::findings::Findings;
-use crate::kept::Kept;
 use crate::lacking::{Lack, Lacking};
 use crate::listing::send_findings;
 use crate::marking::{send_long, send_marks};
 use drum_core::{Location, Word};
 use drum_devices::Output;
+use drum_finding::UnchangedParts;
 use drum_lines::{WriteFault, send, spelling_of};
 use itoa::Buffer;
 
@@ -61,7 +61,7 @@ fn send_head<O: Output>(
     requires few { sent ≤ 2 ^ 60 }
     ensures sent { IsSent (O.written writer.old) (O.written writer.new) sent result
         (codes "[[list]]\nlocation = " ++ decimal location.number ++ codes "\n") }
-    ensures failures { O.failed writer.new ≡ O.failed writer.old + fails_by result }
+    ensures failures { O.failed writer.new ≡ O.failed writer.old + failed_writes result }
     ensures calls { O.called writer.new ≤ O.called writer.old + 100 }
     ensures few { IfOk result (λ total. total ≤ sent + 100) }
 {
@@ -75,12 +75,16 @@ fn send_head<O: Output>(
 }
 
 /// Writes the pattern of a list, with the parts that stay.
-fn send_pattern<O: Output>(writer: &mut O, sent: usize, kept: &Kept) -> Result<usize, WriteFault>
+fn send_pattern<O: Output>(
+    writer: &mut O,
+    sent: usize,
+    kept: &UnchangedParts,
+) -> Result<usize, WriteFault>
     requires called { O.called writer.old ≤ 2 ^ 62 + 2 ^ 61 }
     requires few { sent ≤ 2 ^ 61 }
     ensures sent { IsSent (O.written writer.old) (O.written writer.new) sent result
         (pattern_text kept.now) }
-    ensures failures { O.failed writer.new ≡ O.failed writer.old + fails_by result }
+    ensures failures { O.failed writer.new ≡ O.failed writer.old + failed_writes result }
     ensures calls { O.called writer.new ≤ O.called writer.old + 300 }
     ensures few { IfOk result (λ total. total ≤ sent + 300) }
 {
@@ -113,7 +117,7 @@ fn send_comment<O: Output>(
     requires few { sent ≤ 2 ^ 61 }
     ensures sent { IsSent (O.written writer.old) (O.written writer.new) sent result
         (comment_text loaded) }
-    ensures failures { O.failed writer.new ≡ O.failed writer.old + fails_by result }
+    ensures failures { O.failed writer.new ≡ O.failed writer.old + failed_writes result }
     ensures calls { O.called writer.new ≤ O.called writer.old + 100 }
     ensures few { IfOk result (λ total. total ≤ sent + 100) }
 {
@@ -131,7 +135,7 @@ fn send_list<O: Output>(writer: &mut O, sent: usize, lack: &Lack) -> Result<usiz
     requires few { sent ≤ 2 ^ 60 }
     ensures sent { IsSent (O.written writer.old) (O.written writer.new) sent result
         (list_text (pair_of lack.now)) }
-    ensures failures { O.failed writer.new ≡ O.failed writer.old + fails_by result }
+    ensures failures { O.failed writer.new ≡ O.failed writer.old + failed_writes result }
     ensures calls { O.called writer.new ≤ O.called writer.old + 500 }
     ensures few { IfOk result (λ total. total ≤ sent + 500) }
 {
@@ -150,7 +154,7 @@ fn send_lists<O: Output>(
     requires few { begun ≤ 2 ^ 58 }
     ensures sent { IsSent (O.written writer.old) (O.written writer.new) begun result
         (flat_map list_text (words_in lacking.now)) }
-    ensures failures { O.failed writer.new ≡ O.failed writer.old + fails_by result }
+    ensures failures { O.failed writer.new ≡ O.failed writer.old + failed_writes result }
 {
     let mut sent = begun;
     for lack in &lacking.words {
@@ -177,7 +181,7 @@ pub fn list_findings<O: Output>(
     requires right { words_in lacking.now ≡ words_altered (found_in findings.now) }
     ensures written { IsWritten (O.written writer.old) (O.written writer.new) result
         (check_text (is_long_in findings.now) (found_in findings.now)) }
-    ensures failures { O.failed writer.new ≡ O.failed writer.old + fails_by result }
+    ensures failures { O.failed writer.new ≡ O.failed writer.old + failed_writes result }
 {
     let sent = send_findings(writer, findings)?;
     let sent = send_long(writer, sent, findings.long)?;

@@ -4,7 +4,7 @@
 ghost use Rattle.std.specs.Prelude.{◌≡◌, ◌↔◌, IsTrue, IfOk, map};
 ghost use Rattle.std.specs.List.{list_any};
 ghost use Rattle.drum_times.specs.EdgeOf.{edge_of};
-ghost use Rattle.drum_check.specs.Among.{is_among};
+ghost use Rattle.drum_flow.specs.Taken.{is_among};
 ghost use Rattle.drum_check.specs.FindingsOf.{IsInsideIn};
 ghost use Rattle.drum_check.specs.KnownInside.{AreKnown};
 ghost use Rattle.drum_check.specs.Insides.{AreHeads, HasSeveralWays, IsRound};

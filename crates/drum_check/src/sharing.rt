@@ -10,10 +10,10 @@ ghost use Rattle.drum_check.specs.Insides as said;
 ghost use Rattle.drum_check.specs.Insides.{HasOne, HasSeveralWays, IsRound, ShareMark, AreShared};
 ghost use Rattle.drum_check.specs.Insides.{goes_onto, new_mark, new_marks};
 
-use crate::edges::{mark_alone, marks_of};
 use crate::nesting::Nesting;
 use crate::several::{has_several_ways, is_one_of};
 use drum_core::Location;
+use drum_finding::{mark_alone, marks_of};
 use drum_flow::Flow;
 use drum_times::{Edge, Edges};
 use std::alloc::{AllocError, Global};

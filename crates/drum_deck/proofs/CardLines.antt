@@ -16,9 +16,9 @@ use Rattle.drum_deck.specs.declared.deck.Deck.{Deck}
 use Rattle.drum_core.specs.declared.location.Location.{Location}
 use Rattle.drum_core.specs.declared.word.Word.{Word}
 use Rattle.drum_deck.specs.DeckText.{Line, comment, start, card, Given, given_by_card, given_from, given_at, cards_from}
-use Rattle.drum_deck.specs.Held.{seen, AreOfLines}
-use Rattle.drum_deck.specs.Loads.{found_in, card_in, cards_in}
-use Rattle.drum_deck.proofs.Loads.{or_else, given_at-append}
+use Rattle.drum_deck.specs.ImageOfLines.{seen, AreOfLines}
+use Rattle.drum_deck.specs.InDeck.{found_in, card_in, cards_in}
+use Rattle.drum_deck.proofs.InDeckLaws.{or_else, given_at-append}
 
 -- each is one of the lines' numbers
 within : (number : ℕ) (lines : List Line) (k d : ℕ) → k < length (cards_from number lines)

@@ -14,7 +14,7 @@ use Rattle.drum_deck.proofs.FaultLaws.{starts-append}
 use Rattle.drum_deck.proofs.FirstFaults as firsts
 use Rattle.drum_deck.proofs.FirstFaults.{all_or_first, say_one}
 use Rattle.drum_deck.proofs.LineCases.{least_or_none, line_cases, longer_or_not}
-use Rattle.drum_deck.proofs.Loads.{sound_more, sound_card}
+use Rattle.drum_deck.proofs.InDeckLaws.{sound_more, sound_card}
 use Rattle.drum_deck.proofs.Progress.{first_refused}
 
 given_cases : (given : List Given) (location : ℕ) → IsGiven given location ⊎ (IsGiven given location → ⊥)

@@ -7,6 +7,6 @@ pub mod FaultLaws
 pub mod FirstFaults
 pub mod LineCases
 pub mod LineLemmas
-pub mod Loads
+pub mod InDeckLaws
 pub mod Progress
 pub mod Puts

@@ -13,7 +13,7 @@ use Rattle.drum_deck.proofs.FirstFaults.{say_append}
 use Rattle.drum_deck.proofs.LineLemmas.{longer_by_bytes}
 use Rattle.drum_deck.specs.DeckText.{Line, IsLine, Say, starts, IsTooLong, IsDeck, LacksStart, IsFaultOfLine}
 use Rattle.drum_deck.specs.DeckText.{IsFirstFault, IsRefused}
-use Rattle.drum_deck.specs.Holds.{HoldsLines, IsDeckOf}
+use Rattle.drum_deck.specs.DeckOfLines.{HoldsLines, IsDeckOf}
 
 -- Of a text some lines have been read, and this is left.
 pub record Progress (text rest : List ℕ) (loading : Loading) (number : ℕ) : Type 0 where

@@ -1,7 +1,7 @@
 pub mod DeckLine
 pub mod DeckText
-pub mod Held
-pub mod Holds
+pub mod ImageOfLines
+pub mod DeckOfLines
 pub mod Lines
-pub mod Loaded
-pub mod Loads
+pub mod FirstLoaded
+pub mod InDeck

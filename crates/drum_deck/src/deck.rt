@@ -1,7 +1,7 @@
 //! The deck that loads the drum, as its lines were read.
 
 ghost use Rattle.std.specs.Prelude.{◌≡◌, ◌<◌, vec_len};
-ghost use Rattle.drum_deck.specs.Held.{AreOfLines};
+ghost use Rattle.drum_deck.specs.ImageOfLines.{AreOfLines};
 
 use drum_core::{Kind, Location, Word};
 
@@ -38,9 +38,9 @@ impl Deck {
     ghost use Rattle.std.specs.List.Sorted.{IsStrictlyIncreasing};
     ghost use Rattle.drum_deck.specs.DeckText.{Line, given_at, given_from, loads_of, card_of};
     ghost use Rattle.drum_deck.specs.DeckText.{cards_from, starts};
-    ghost use Rattle.drum_deck.specs.Held.{seen};
-    ghost use Rattle.drum_deck.specs.Holds.{IsDeckOf};
-    ghost use Rattle.drum_deck.specs.Loads.{card_in, cards_in, given_in, loads_in, start_in};
+    ghost use Rattle.drum_deck.specs.ImageOfLines.{seen};
+    ghost use Rattle.drum_deck.specs.DeckOfLines.{IsDeckOf};
+    ghost use Rattle.drum_deck.specs.InDeck.{card_in, cards_in, given_in, loads_in, start_in};
 
     /// The most lines of a deck's text.
     pub const LINES: u16 = 4000;

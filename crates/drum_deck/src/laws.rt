@@ -4,8 +4,8 @@ ghost use Rattle.std.specs.Prelude.{◌≡◌, ℕ, ◌<◌, ◌≤◌, ◌⊎�
 ghost use Rattle.std.specs.List.Sorted.{IsStrictlyIncreasing};
 ghost use Rattle.drum_deck.specs.DeckText.{Given, Line, given_at, loads_of, starts, AreDistinct};
 ghost use Rattle.drum_deck.specs.DeckText.{IsDeck, IsRefused, Say};
-ghost use Rattle.drum_deck.specs.Holds.{IsDeckOf};
-ghost use Rattle.drum_deck.specs.Loads.{card_in, cards_in, loads_in, start_in};
+ghost use Rattle.drum_deck.specs.DeckOfLines.{IsDeckOf};
+ghost use Rattle.drum_deck.specs.InDeck.{card_in, cards_in, loads_in, start_in};
 ghost use Rattle.drum_deck.specs.declared.deck.Deck.{Deck};
 ghost use Rattle.drum_deck.specs.declared.deck.fault.DeckFault.{DeckFault};
 ghost use Rattle.drum_core.specs.declared.word.Word.{Word};

@@ -7,14 +7,16 @@
 //!
 //! Definitions, in the order to read them: `Lines` says which lines a text has and what its first
 //! fault is, and `DeckText` which texts are decks. The others say what the code's types mean by
-//! these. `DeckLine` is what a line that was read says. `Held` says that an image, cards and a
-//! start are those of some lines (each deck's type promises such lines), and `Holds` that a deck
-//! is, and one of which some lines are read. `Loaded` says which location of a card is the first
-//! that has a word already, and `Loads` what a deck loads.
+//! these. `DeckLine` is what a line that was read says. `ImageOfLines` says that an image, cards
+//! and a start are those of some lines (each deck's type promises such lines), and `DeckOfLines`
+//! that a deck is, and one of which some lines are read. `FirstLoaded` says which location of a
+//! card is the first that has a word already, and `InDeck` what a deck loads.
 //!
 //! Proofs. These have laws that other crates use: `FirstFaults`, that a text by lines says one
-//! thing and has one first fault; `DeckLaws` and `FaultLaws`, of decks and their faults. `Checks`
-//! evaluates definitions.
+//! thing and has one first fault; `DeckLaws` and `FaultLaws`, of decks and their faults;
+//! `DeckOrFault`, that every text is a deck or has its fault; `LineLemmas` and `LineCases`, of
+//! single lines; `Cards`, `CardLines`, `Puts` and `InDeckLaws`, of what cards load. `Progress`
+//! follows the lines as they are read. `Checks` evaluates definitions.
 #![tactic(auto)]
 
 mod deck;

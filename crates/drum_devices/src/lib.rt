@@ -1,8 +1,9 @@
 //! What bytes come from and go to, and how a whole text is read and written.
 //!
-//! Code. `device/input` and `device/output` are the traits of devices, and `device/reading` and
-//! `device/writing` make one of any reader or writer of `std`. `device/whole` reads a whole text,
-//! and `device/pieces` writes one.
+//! Code. `input` and `output` are the traits of devices, which tell how often one was called and
+//! how often it failed, and which bytes are left or written where that is known; `failed` is what a
+//! failed call says. `reading` and `writing` make one of any reader or writer of `std`. `whole`
+//! reads a whole text, and `pieces` writes one.
 //!
 //! Definitions: `Device` is what a device tells of its calls.
 //!
@@ -10,12 +11,18 @@
 //! what a `?` hands on.
 #![tactic(auto)]
 
-mod device;
+mod failed;
+mod input;
+mod output;
+mod pieces;
+mod reading;
+mod whole;
+mod writing;
 
-pub use device::Failed;
-pub use device::input::Input;
-pub use device::output::Output;
-pub use device::pieces::{Unsent, write_pieces, write_whole};
-pub use device::reading::Reading;
-pub use device::whole::{WholeError, read_whole};
-pub use device::writing::Writing;
+pub use failed::Failed;
+pub use input::Input;
+pub use output::Output;
+pub use pieces::{Unsent, write_pieces, write_whole};
+pub use reading::Reading;
+pub use whole::{WholeError, read_whole};
+pub use writing::Writing;

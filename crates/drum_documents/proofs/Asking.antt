@@ -10,7 +10,7 @@ use Rattle.drum_lines.specs.FaultStatus.{reads_failed}
 use Rattle.drum_documents.specs.Asked.{AreLookedAt, AreLookedAtUpTo, Asked, AsksFor, IsLookedAt, IsOfText, IsRead, MayWant}
 use Rattle.drum_documents.specs.Asked.{NamedFile, Reading, failures_told, most_of, reading}
 use Rattle.drum_documents.specs.Asked.{returned, sought}
-use Rattle.drum_documents.specs.Files.{AreTold, FilesTold, Held, behind}
+use Rattle.drum_documents.specs.Files.{AreTold, FilesTold, Contents, behind}
 
 -- what is asked is also something else
 pub asks_as : (before after : Option (List Asked)) (P Q : List Asked → Type 0)
@@ -183,7 +183,7 @@ module _ (files others : List NamedFile) (before between after : Option (List As
   earlier_faulty told asks = asks_as before after _ _ (upto_more files others told) asks
 
 -- where files are told, the first of them are
-pub first_told : (told_of : FilesTold) (held : Held) (files others : List NamedFile)
+pub first_told : (told_of : FilesTold) (held : Contents) (files others : List NamedFile)
     → AreTold told_of held (files ++ others) → AreTold told_of held files
 first_told told_of held [] others told = tt
 first_told told_of held (one ∷ files) others told = (told.0, first_told (behind told_of) held files others told.1)

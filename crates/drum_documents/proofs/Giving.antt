@@ -6,7 +6,7 @@ use Rattle.drum_documents.specs.declared.documents.Documents.{Documents}
 use Rattle.drum_lines.specs.declared.fault.Fault.{Fault}
 use Rattle.drum_lines.specs.declared.fault.Fault.TheVariants.{NoPart, Part, Memory, Deck, Times, Notes, Inputs, Refused}
 use Rattle.drum_lines.specs.declared.fault.Fault.TheVariants.{Loaded}
-use Rattle.drum_lines.specs.FaultStatus.{failed_by, reads_failed}
+use Rattle.drum_lines.specs.FaultStatus.{failed_reads, reads_failed}
 use Rattle.drum_documents.specs.Joined.{Gives, GivesNone, Joins, JoinsNone}
 
 given_none : (bytes : List ℕ) (fault : Fault) → length bytes ≤ 16777216 → JoinsNone bytes fault → GivesNone bytes fault
@@ -55,7 +55,7 @@ unread text (Refused fault) is = refl
 unread text (Loaded location) is = refl
 
 pub joined_unread : {A : Type 0} (text : List ℕ) (result : Result A Fault) → IfErr result (JoinsNone text)
-    → failed_by result ≡ 0
+    → failed_reads result ≡ 0
 joined_unread text (Ok documents) is = refl
 joined_unread text (Err fault) is = unread text fault is
 

@@ -1,8 +1,8 @@
 -- A text that is read whole, by its part, or isn't.
 use Rattle.std.proofs.Common.{◌≡◌, ℕ, ◌+◌, ◌≤◌, ◌<◌, List, length, Option, Some, None, ◌⊎◌, refl, inl, inr}
 use Rattle.std.proofs.Common.{ap, sym, arith, IfSome}
-use Rattle.drum_devices.specs.declared.device.whole.WholeError.{WholeError}
-use Rattle.drum_devices.specs.declared.device.whole.WholeError.TheVariants as why
+use Rattle.drum_devices.specs.declared.whole.WholeError.{WholeError}
+use Rattle.drum_devices.specs.declared.whole.WholeError.TheVariants as why
 use Rattle.drum_lines.specs.declared.fault.Fault.{Fault}
 use Rattle.drum_lines.specs.declared.part.Part as parts
 use Rattle.drum_lines.specs.declared.part.Part.TheVariants as part

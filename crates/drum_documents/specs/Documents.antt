@@ -5,7 +5,7 @@ use Rattle.drum_deck.specs.declared.deck.Deck.{Deck}
 use Rattle.drum_deck.specs.declared.deck.fault.DeckFault.{DeckFault}
 use Rattle.drum_deck.specs.declared.deck.fault.DeckFault.TheVariants as of_deck
 use Rattle.drum_deck.specs.DeckText as text
-use Rattle.drum_deck.specs.Holds.{IsDeckOf}
+use Rattle.drum_deck.specs.DeckOfLines.{IsDeckOf}
 use Rattle.drum_times.specs.declared.times.Times.{Times}
 use Rattle.drum_toml.specs.declared.notes.notes_read.NotesRead.{NotesRead}
 use Rattle.drum_toml.specs.Says.{SayTimes, SayNotesOf, AreNoTimes, AreNoNotesOf}

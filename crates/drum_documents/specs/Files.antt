@@ -3,8 +3,8 @@ use Rattle.std.specs.Prelude.{◌≡◌, ℕ, ◌+◌, ◌<◌, ◌≤◌, List,
 use Rattle.std.specs.Prelude.{IsSome, ◌⊎◌}
 use Rattle.drum_deck.specs.declared.deck.Deck.{Deck}
 use Rattle.drum_deck.specs.declared.deck.fault.DeckFault.TheVariants as of_deck
-use Rattle.drum_devices.specs.declared.device.whole.WholeError.{WholeError}
-use Rattle.drum_devices.specs.declared.device.whole.WholeError.TheVariants as why
+use Rattle.drum_devices.specs.declared.whole.WholeError.{WholeError}
+use Rattle.drum_devices.specs.declared.whole.WholeError.TheVariants as why
 use Rattle.drum_times.specs.declared.times.Times.{Times}
 use Rattle.drum_times.specs.Allowed.{Notes}
 use Rattle.drum_toml.specs.declared.notes.notes_read.NotesRead.{NotesRead}
@@ -40,11 +40,11 @@ IsFetched (Some None) fetched = fetched ≡ None
 IsFetched (Some (Some bytes)) fetched = fetched ≡ Some (Some bytes)
 
 -- what the file of each part holds: its bytes; or none, where it can't be opened
-abbrev pub Held : Type 0
-Held = parts.Part → Option (List ℕ)
+abbrev pub Contents : Type 0
+Contents = parts.Part → Option (List ℕ)
 
 -- it is told of these files, sought one after the other
-abbrev pub AreTold : FilesTold → Held → List NamedFile → Type 0
+abbrev pub AreTold : FilesTold → Contents → List NamedFile → Type 0
 AreTold files held [] = Unit {0}
 AreTold files held (one ∷ others) =
     (files 0 one.name ≡ Some (held one.part)) × AreTold (behind files) held others
@@ -120,13 +120,13 @@ abbrev pub HoldsNoInputs : Option (List ℕ) → Fault → Type 0
 HoldsNoInputs = HoldsNone part.Inputs RefusesInputs
 
 -- the files of three parts are those of documents, where such notes are read
-pub record AreHeld (read : NotesRead) (held : Held) (documents : Documents) : Type 0 where
+pub record AreHeld (read : NotesRead) (held : Contents) (documents : Documents) : Type 0 where
   pub deck : HoldsDeck (held part.Deck) documents.deck
   pub times : HoldsTimes (held part.Times) documents.times
   pub notes : HoldsNotesOf read (held part.Notes) documents.notes
 
 -- why they are not: the first of them, the deck, the timing table, the notes, that is refused
-abbrev pub AreNotHeld : NotesRead → Held → Fault → Type 0
+abbrev pub AreNotHeld : NotesRead → Contents → Fault → Type 0
 AreNotHeld read held one =
     HoldsNoDeck (held part.Deck) one
     ⊎ ((deck : Deck) × HoldsDeck (held part.Deck) deck
@@ -135,12 +135,12 @@ AreNotHeld read held one =
     × HoldsNoNotes read (held part.Notes) one)))
 
 -- and a fourth is that of inputs
-abbrev pub AreHeldWithInputs : NotesRead → Held → Documents × Inputs → Type 0
+abbrev pub AreHeldWithInputs : NotesRead → Contents → Documents × Inputs → Type 0
 AreHeldWithInputs read held found =
     AreHeld read held found.0 × HoldsInputs (held part.Inputs) found.1
 
 -- why they are not: one of the three is refused, or else that of the inputs
-abbrev pub AreNotHeldWithInputs : NotesRead → Held → Fault → Type 0
+abbrev pub AreNotHeldWithInputs : NotesRead → Contents → Fault → Type 0
 AreNotHeldWithInputs read held one =
     AreNotHeld read held one
     ⊎ (((documents : Documents) × AreHeld read held documents)

@@ -1,11 +1,11 @@
 -- What is known of documents: their bound, a worst walk, a ceiling, alone and with a walk, and what
 -- limits a run of theirs.
 use Rattle.std.specs.Prelude.{◌≡◌, ℕ, ◌^◌, ◌<◌, List, IsTrue, not, ◌⊎◌}
-use Rattle.drum_deck.specs.Loads.{loads_in, start_in}
+use Rattle.drum_deck.specs.InDeck.{loads_in, start_in}
 use Rattle.drum_times.specs.Short.{is_short}
 use Rattle.drum_flow.specs.declared.refusal.Refusal.{Refusal}
 use Rattle.drum_flow.specs.declared.refusal.Refusal.TheVariants.{TooLarge}
-use Rattle.drum_flow.specs.Accepted.{IsTooLarge, product_of, told}
+use Rattle.drum_flow.specs.Accepted.{IsTooLarge, product_of, capped}
 use Rattle.drum_flow.specs.Executed.{IsOrder}
 use Rattle.drum_flow.specs.Refused.{IsDiscoveryRefusal}
 use Rattle.drum_acceptance.specs.Acceptance.{IsAdmissionRefusal, IsRefusal}
@@ -95,7 +95,7 @@ abbrev pub IsProduct : Documents → ℕ → Type 0
 IsProduct documents product =
     (executed : List ℕ)
     × IsOrder (loads_in documents.deck) documents.notes (start_in documents.deck) executed
-    × (product ≡ told (product_of executed documents.notes.marks))
+    × (product ≡ capped (product_of executed documents.notes.marks))
 
 -- Why there is neither: the deck with its notes is refused, but for its size; or they have no
 -- bound, and what no ceiling is above is 2 ^ 50 or more. Then the product is told.

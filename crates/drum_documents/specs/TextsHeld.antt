@@ -4,16 +4,16 @@ use Rattle.drum_lines.specs.declared.fault.Fault.{Fault}
 use Rattle.drum_lines.specs.declared.part.Part.TheVariants as part
 use Rattle.drum_faults.specs.FaultLines.{Named}
 use Rattle.drum_documents.specs.Documents.{Texts}
-use Rattle.drum_documents.specs.Files.{Held, HoldsText, HoldsNoText}
+use Rattle.drum_documents.specs.Files.{Contents, HoldsText, HoldsNoText}
 
 -- the files of three parts hold these texts, each within its limit
-pub record AreTextsHeld (held : Held) (texts : Texts) : Type 0 where
+pub record AreTextsHeld (held : Contents) (texts : Texts) : Type 0 where
   pub deck : HoldsText part.Deck (held part.Deck) texts.deck
   pub times : HoldsText part.Times (held part.Times) texts.times
   pub notes : HoldsText part.Notes (held part.Notes) texts.notes
 
 -- Why three texts can't be had: the deck can't, or else the timing table, or else the notes.
-abbrev pub AreNoTextsHeld : Held → Fault → Type 0
+abbrev pub AreNoTextsHeld : Contents → Fault → Type 0
 AreNoTextsHeld held one =
     HoldsNoText part.Deck (held part.Deck) one
     ⊎ ((deck : List ℕ) × HoldsText part.Deck (held part.Deck) deck
@@ -22,14 +22,14 @@ AreNoTextsHeld held one =
     × HoldsNoText part.Notes (held part.Notes) one)))
 
 -- the text of inputs with its file's name, where one is named
-abbrev pub IsInputsText : Held → Option (List ℕ) → Option Named → Type 0
+abbrev pub IsInputsText : Contents → Option (List ℕ) → Option Named → Type 0
 IsInputsText held None text = text ≡ None
 IsInputsText held (Some name) text =
     (bytes : List ℕ) × HoldsText part.Inputs (held part.Inputs) bytes
     × (text ≡ Some (record { name = name; bytes = bytes }))
 
 -- why the texts that are named can't be had: three of them can't, or else the inputs
-abbrev pub AreNoneHeld : Held → Option (List ℕ) → Fault → Type 0
+abbrev pub AreNoneHeld : Contents → Option (List ℕ) → Fault → Type 0
 AreNoneHeld held name one =
     AreNoTextsHeld held one
     ⊎ (((texts : Texts) × AreTextsHeld held texts) × IsSome name

@@ -2,12 +2,12 @@
 
 ghost use Rattle.std.specs.Prelude.{◌≡◌, ◌+◌, ◌^◌, ◌≤◌, ℕ, List, Option, Some, IfOk, IfErr};
 ghost use Rattle.std.specs.Prelude.{IfSome};
-ghost use Rattle.drum_lines.specs.FaultStatus.{failed_by};
+ghost use Rattle.drum_lines.specs.FaultStatus.{failed_reads};
 ghost use Rattle.drum_documents.specs.Asked.{AsksFor, IsLookedAt, IsOfText, IsRead, LooksFor};
 ghost use Rattle.drum_documents.specs.Asked.{fault_in};
 ghost use Rattle.drum_documents.specs.Asked.{all_named_in, most_of, named_in, reading};
 ghost use Rattle.drum_documents.specs.Files.{AreHeld, AreHeldWithInputs, AreNotHeld};
-ghost use Rattle.drum_documents.specs.Files.{AreNotHeldWithInputs, AreTold, Held, HoldsDeck};
+ghost use Rattle.drum_documents.specs.Files.{AreNotHeldWithInputs, AreTold, Contents, HoldsDeck};
 ghost use Rattle.drum_documents.specs.Files.{HoldsInputs, HoldsNoDeck, HoldsNoInputs, HoldsNoNotes};
 ghost use Rattle.drum_documents.specs.Files.{HoldsNotesOf, HoldsNoText, HoldsNoTimes, HoldsText};
 ghost use Rattle.drum_documents.specs.Files.{HoldsTimes, behind};
@@ -26,7 +26,7 @@ use drum_toml::{NotesRead, read_notes_of, read_times};
 use std::alloc::Global;
 
 /// The most bytes of a text of this part.
-fn limit_of(part: Part) -> usize
+fn most_bytes(part: Part) -> usize
     ensures { result + 1 ≡ most_of part }
 {
     match part {
@@ -62,14 +62,14 @@ fn text_of<I: Input>(alloc: Global, part: Part, text: &mut I) -> Result<Vec<u8>,
         HoldsText part (Some all) bytes.items)) }
     ensures fault { IfErr result (λ fault. IfSome (I.unread text.old) (λ all.
         HoldsNoText part (Some all) fault)) }
-    ensures counted { I.failed text.old ≡ 0 → I.failed text.new ≡ failed_by result }
+    ensures counted { I.failed text.old ≡ 0 → I.failed text.new ≡ failed_reads result }
     ensures of { IsOfText part (fault_in result) }
     ensures all { I.called text.old ≡ 0 → I.failed text.old ≡ 0 → I.ended text.old ≡ 0
         → I.given text.old ≡ 0 → I.idle text.old ≡ 0 → IsRead (most_of part) (fault_in result)
         (reading (I.called text.new) (I.failed text.new) (I.ended text.new) (I.given text.new)
         (I.idle text.new)) }
 {
-    match read_whole(alloc, text, limit_of(part)) {
+    match read_whole(alloc, text, most_bytes(part)) {
         Ok(bytes) => Ok(bytes),
         Err(error) => Err(fault_by(part, error)),
     }
@@ -88,7 +88,7 @@ pub fn read_text<S: Source>(
 ) -> Result<Vec<u8>, Fault>
     requires few { S.failed source.old ≤ 2 ^ 62 }
     ensures behind { S.files source.new ≡ behind (S.files source.old) }
-    ensures counted { S.failed source.new ≡ S.failed source.old + failed_by result }
+    ensures counted { S.failed source.new ≡ S.failed source.old + failed_reads result }
     ensures bytes { IfOk result (λ bytes. (file : Option (List ℕ))
         → S.files source.old 0 name.now ≡ Some file → HoldsText part file bytes.items) }
     ensures fault { IfErr result (λ fault. (file : Option (List ℕ))
@@ -108,7 +108,7 @@ pub fn read_text<S: Source>(
 fn deck_in<S: Source>(alloc: Global, source: &mut S, name: &str) -> Result<Deck, Fault>
     requires few { S.failed source.old ≤ 2 ^ 62 }
     ensures behind { S.files source.new ≡ behind (S.files source.old) }
-    ensures counted { S.failed source.new ≡ S.failed source.old + failed_by result }
+    ensures counted { S.failed source.new ≡ S.failed source.old + failed_reads result }
     ensures deck { IfOk result (λ deck. (file : Option (List ℕ))
         → S.files source.old 0 name.now ≡ Some file → HoldsDeck file deck) }
     ensures fault { IfErr result (λ fault. (file : Option (List ℕ))
@@ -125,7 +125,7 @@ fn deck_in<S: Source>(alloc: Global, source: &mut S, name: &str) -> Result<Deck,
 fn times_in<S: Source>(alloc: Global, source: &mut S, name: &str) -> Result<Times, Fault>
     requires few { S.failed source.old ≤ 2 ^ 62 }
     ensures behind { S.files source.new ≡ behind (S.files source.old) }
-    ensures counted { S.failed source.new ≡ S.failed source.old + failed_by result }
+    ensures counted { S.failed source.new ≡ S.failed source.old + failed_reads result }
     ensures times { IfOk result (λ times. (file : Option (List ℕ))
         → S.files source.old 0 name.now ≡ Some file → HoldsTimes file times) }
     ensures fault { IfErr result (λ fault. (file : Option (List ℕ))
@@ -149,7 +149,7 @@ fn notes_in<S: Source>(
 ) -> Result<Notes, Fault>
     requires few { S.failed source.old ≤ 2 ^ 62 }
     ensures behind { S.files source.new ≡ behind (S.files source.old) }
-    ensures counted { S.failed source.new ≡ S.failed source.old + failed_by result }
+    ensures counted { S.failed source.new ≡ S.failed source.old + failed_reads result }
     ensures notes { IfOk result (λ notes. (file : Option (List ℕ))
         → S.files source.old 0 name.now ≡ Some file → HoldsNotesOf read file notes) }
     ensures fault { IfErr result (λ fault. (file : Option (List ℕ))
@@ -173,7 +173,7 @@ fn notes_in<S: Source>(
 pub fn inputs_in<S: Source>(alloc: Global, source: &mut S, name: &str) -> Result<Inputs, Fault>
     requires few { S.failed source.old ≤ 2 ^ 62 }
     ensures behind { S.files source.new ≡ behind (S.files source.old) }
-    ensures counted { S.failed source.new ≡ S.failed source.old + failed_by result }
+    ensures counted { S.failed source.new ≡ S.failed source.old + failed_reads result }
     ensures inputs { IfOk result (λ inputs. (file : Option (List ℕ))
         → S.files source.old 0 name.now ≡ Some file → HoldsInputs file inputs) }
     ensures fault { IfErr result (λ fault. (file : Option (List ℕ))
@@ -201,10 +201,10 @@ pub fn documents_in<S: Source>(
     requires few { S.failed source.old ≤ 2 ^ 61 }
     ensures behind { IfOk result (λ _.
         S.files source.new ≡ behind (behind (behind (S.files source.old)))) }
-    ensures counted { S.failed source.new ≡ S.failed source.old + failed_by result }
-    ensures held { IfOk result (λ documents. (held : Held)
+    ensures counted { S.failed source.new ≡ S.failed source.old + failed_reads result }
+    ensures held { IfOk result (λ documents. (held : Contents)
         → AreTold (S.files source.old) held (named_in files.entry) → AreHeld read held documents) }
-    ensures fault { IfErr result (λ fault. (held : Held)
+    ensures fault { IfErr result (λ fault. (held : Contents)
         → AreTold (S.files source.old) held (named_in files.entry) → AreNotHeld read held fault) }
     ensures asked { AsksFor (S.asked source.old) (S.asked source.new)
         (LooksFor (named_in files.entry) result) }
@@ -229,13 +229,13 @@ pub fn documents_with_inputs<S: Source>(
     read: NotesRead,
 ) -> Result<(Documents, Inputs), Fault>
     requires { S.failed source.old ≤ 2 ^ 61 }
-    ensures held { IfOk result (λ done. (held : Held)
+    ensures held { IfOk result (λ done. (held : Contents)
         → AreTold (S.files source.old) held (all_named_in files.entry inputs.entry.now)
         → AreHeldWithInputs read held done) }
-    ensures fault { IfErr result (λ fault. (held : Held)
+    ensures fault { IfErr result (λ fault. (held : Contents)
         → AreTold (S.files source.old) held (all_named_in files.entry inputs.entry.now)
         → AreNotHeldWithInputs read held fault) }
-    ensures counted { S.failed source.new ≡ S.failed source.old + failed_by result }
+    ensures counted { S.failed source.new ≡ S.failed source.old + failed_reads result }
     ensures asked { AsksFor (S.asked source.old) (S.asked source.new)
         (LooksFor (all_named_in files.entry inputs.entry.now) result) }
 {

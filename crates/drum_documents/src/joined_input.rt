@@ -1,7 +1,7 @@
 //! Documents from the joined form, read from an input and taken apart.
 
 ghost use Rattle.std.specs.Prelude.{◌≡◌, ◌+◌, ◌^◌, ◌≤◌, ◌⊎◌, ℕ, IfOk, IfErr, IfSome, IsErrOf};
-ghost use Rattle.drum_lines.specs.FaultStatus.{failed_by};
+ghost use Rattle.drum_lines.specs.FaultStatus.{failed_reads};
 ghost use Rattle.drum_documents.specs.Joined.{Gives, GivesNone, IsPastLimit, Joins, JoinsNone};
 
 use crate::documents::Documents;
@@ -48,7 +48,7 @@ pub fn documents_of<I: Input>(alloc: Global, input: &mut I) -> Result<Documents,
     ensures fault { IfErr result (λ fault.
         IfSome (I.unread input.old) (λ bytes. GivesNone bytes fault)) }
     ensures counted { (failures : ℕ) → I.failed input.new ≡ I.failed input.old + failures
-        → failures ≡ failed_by result }
+        → failures ≡ failed_reads result }
     ensures whole { ¬ IsErrOf result (Fault.Part Part.Joined PartFault.Read)
         → ¬ IsErrOf result Fault.Memory → (I.ended input.new ≡ I.ended input.old + 1)
         ⊎ (I.given input.new ≡ I.given input.old + 16777217) }

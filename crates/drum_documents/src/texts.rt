@@ -3,11 +3,11 @@
 
 ghost use Rattle.std.specs.Prelude.{◌≡◌, ◌+◌, ◌^◌, ◌≤◌, IfOk, IfErr};
 ghost use Rattle.std.specs.Prelude.{IsSome, option_map};
-ghost use Rattle.drum_lines.specs.FaultStatus.{failed_by};
+ghost use Rattle.drum_lines.specs.FaultStatus.{failed_reads};
 ghost use Rattle.drum_documents.specs.Asked.{AsksFor, LooksFor};
 ghost use Rattle.drum_documents.specs.Asked.{inputs_named, name_in, named_in, named_with};
 ghost use Rattle.drum_documents.specs.TextsOf.{inputs_in, texts_in};
-ghost use Rattle.drum_documents.specs.Files.{AreTold, Held, HoldsNoText, behind};
+ghost use Rattle.drum_documents.specs.Files.{AreTold, Contents, HoldsNoText, behind};
 ghost use Rattle.drum_documents.specs.TextsHeld.{AreNoTextsHeld, AreNoneHeld, AreTextsHeld};
 ghost use Rattle.drum_documents.specs.TextsHeld.{IsInputsText};
 
@@ -32,13 +32,13 @@ fn inputs_text<S: Source>(
     name: Option<&str>,
 ) -> Result<Option<Vec<u8>>, Fault>
     requires few { S.failed source.old ≤ 2 ^ 62 }
-    ensures counted { S.failed source.new ≡ S.failed source.old + failed_by result }
-    ensures text { IfOk result (λ text. (held : Held)
+    ensures counted { S.failed source.new ≡ S.failed source.old + failed_reads result }
+    ensures text { IfOk result (λ text. (held : Contents)
         → AreTold (S.files source.old) held (inputs_named (name_in name.entry))
         → IsInputsText held (name_in name.entry)
         (inputs_in (name_in name.entry)
         (option_map (λ bytes. bytes.items) text))) }
-    ensures fault { IfErr result (λ fault. (held : Held)
+    ensures fault { IfErr result (λ fault. (held : Contents)
         → AreTold (S.files source.old) held (inputs_named (name_in name.entry))
         → IsSome (name_in name.entry) × HoldsNoText Part.Inputs (held Part.Inputs) fault) }
     ensures asked { AsksFor (S.asked source.old) (S.asked source.new)
@@ -66,11 +66,11 @@ impl Texts {
         requires few { S.failed source.old ≤ 2 ^ 61 }
         ensures behind { IfOk result (λ _.
             S.files source.new ≡ behind (behind (behind (S.files source.old)))) }
-        ensures counted { S.failed source.new ≡ S.failed source.old + failed_by result }
-        ensures held { IfOk result (λ texts. (held : Held)
+        ensures counted { S.failed source.new ≡ S.failed source.old + failed_reads result }
+        ensures held { IfOk result (λ texts. (held : Contents)
             → AreTold (S.files source.old) held (named_in files.entry)
             → AreTextsHeld held (texts_in texts)) }
-        ensures fault { IfErr result (λ fault. (held : Held)
+        ensures fault { IfErr result (λ fault. (held : Contents)
             → AreTold (S.files source.old) held (named_in files.entry)
             → AreNoTextsHeld held fault) }
         ensures asked { AsksFor (S.asked source.old) (S.asked source.new)
@@ -95,17 +95,17 @@ pub fn texts_with_inputs<S: Source>(
     name: Option<&str>,
 ) -> Result<(Texts, Option<Vec<u8>>), Fault>
     requires { S.failed source.old ≤ 2 ^ 61 }
-    ensures texts { IfOk result (λ done. (held : Held)
+    ensures texts { IfOk result (λ done. (held : Contents)
         → AreTold (S.files source.old) held (named_with files.entry (name_in name.entry))
         → AreTextsHeld held (texts_in done.0)) }
-    ensures inputs { IfOk result (λ done. (held : Held)
+    ensures inputs { IfOk result (λ done. (held : Contents)
         → AreTold (S.files source.old) held (named_with files.entry (name_in name.entry))
         → IsInputsText held (name_in name.entry)
         (inputs_in (name_in name.entry) (option_map (λ bytes. bytes.items) done.1))) }
-    ensures fault { IfErr result (λ fault. (held : Held)
+    ensures fault { IfErr result (λ fault. (held : Contents)
         → AreTold (S.files source.old) held (named_with files.entry (name_in name.entry))
         → AreNoneHeld held (name_in name.entry) fault) }
-    ensures counted { S.failed source.new ≡ S.failed source.old + failed_by result }
+    ensures counted { S.failed source.new ≡ S.failed source.old + failed_reads result }
     ensures asked { AsksFor (S.asked source.old) (S.asked source.new)
         (LooksFor (named_with files.entry (name_in name.entry)) result) }
 {

@@ -4,7 +4,8 @@ ghost use Rattle.std.specs.Prelude.{◌≡◌, ◌&&◌, is_some};
 ghost use Rattle.drum_machine.specs.Step.{is_read as read_is, has_cards};
 ghost use Rattle.drum_machine.specs.Timing.{IsWait};
 ghost use Rattle.drum_emulator.specs.Registers.{cards_before};
-ghost use Rattle.drum_emulator.specs.Fed.{is_load as load_of, card_for, cards_after, wait_for, waits_after};
+ghost use Rattle.drum_emulator.specs.Fed.{is_load as load_of, card_for, cards_after, wait_for};
+ghost use Rattle.drum_emulator.specs.Fed.{waits_after};
 ghost use Rattle.drum_emulator.specs.Feed.{cards_left, waits_left};
 
 use drum_core::Op;

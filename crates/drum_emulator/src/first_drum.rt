@@ -1,7 +1,7 @@
 //! The drum at time 0.
 
 ghost use Rattle.std.specs.Prelude.{◌≡◌, ◌<◌, IfOk};
-ghost use Rattle.drum_deck.specs.Loads.{loads_in};
+ghost use Rattle.drum_deck.specs.InDeck.{loads_in};
 ghost use Rattle.drum_emulator.specs.FirstState.{first_word as first_of, IsFirstDrum};
 
 use crate::memory::Memory;

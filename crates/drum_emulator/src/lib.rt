@@ -5,10 +5,14 @@
 //! card and the next wait are taken. `first_drum` is its drum at time 0. `arithmetic` has sums,
 //! products, quotients, digit sums and shifts. `registers` has what each operation does, and the
 //! units of its work. `machine` takes the steps. A `step` is what it answers, and a `stop` that it
-//! has stopped. `memory` is that memory was wanted.
+//! has stopped. `memory` says that there was no memory.
 //!
 //! Definitions: `Setup` and `FirstState` (how a run begins) and `Fed` (which cards and waits its
 //! steps take). The others say what the code's types mean: `Registers`, `Feed`, `Machine`.
+//!
+//! Proofs. `Stepping` puts a step together of its parts, over `Keeping`, of a number that the
+//! accumulator is to keep. `OwnLocations` is on words for locations, each given once. `StepLaws`
+//! says what a step writes and by which way it ends. Other crates use `Stepping` too.
 #![tactic(auto)]
 
 mod arithmetic;

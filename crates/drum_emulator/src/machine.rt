@@ -32,7 +32,7 @@ impl Machine {
     ghost use Rattle.std.specs.Prelude.{List, Some, None, Result, true};
     ghost use Rattle.drum_core.specs.Op.{operand_of, is_operand};
     ghost use Rattle.drum_core.specs.declared.word.Word.{Word as WordType};
-    ghost use Rattle.drum_deck.specs.Loads.{loads_in, start_in};
+    ghost use Rattle.drum_deck.specs.InDeck.{loads_in, start_in};
     ghost use Rattle.drum_times.specs.Entries.{entry_in};
     ghost use Rattle.drum_machine.specs.declared.why.Why.{Why as WhyType};
     ghost use Rattle.drum_machine.specs.Run.{IsFirstState};

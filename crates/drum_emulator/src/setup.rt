@@ -61,7 +61,7 @@ fn have_own_locations(words: &[(Location, Word)]) -> bool
 }
 
 impl Setup {
-    ghost use Rattle.drum_deck.specs.Loads.{loads_in};
+    ghost use Rattle.drum_deck.specs.InDeck.{loads_in};
 
     /// A setup: the drum's angle at time 0, the words of the switches and of the distributor, the
     /// accumulator, whether the overflow latch is on, whether the programmed switch and the

@@ -7,9 +7,9 @@ use Rattle.drum_core.specs.declared.location.Location.{Location}
 use Rattle.drum_core.specs.declared.word.Word.{Word}
 use Rattle.drum_deck.specs.DeckText.{IsDeck, loads_of}
 use Rattle.drum_deck.specs.DeckText as deck_lines
-use Rattle.drum_deck.specs.Holds.{IsDeckOf}
-use Rattle.drum_deck.specs.Loads.{loads_in}
-use Rattle.drum_deck.proofs.Loads.{held_is_said}
+use Rattle.drum_deck.specs.DeckOfLines.{IsDeckOf}
+use Rattle.drum_deck.specs.InDeck.{loads_in}
+use Rattle.drum_deck.proofs.InDeckLaws.{held_is_said}
 use Rattle.drum_inputs.specs.declared.inputs.Inputs.{Inputs}
 use Rattle.drum_inputs.specs.Inputs.{AreInputsOf, given_word}
 use Rattle.drum_inputs.specs.InputsText.{AreInputs, given_in}

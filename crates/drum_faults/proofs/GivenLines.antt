@@ -7,8 +7,8 @@ use Rattle.std.specs.Option.{option_map}
 use borrow.Author.Tests.{ne_eqb}
 use Rattle.drum_core.specs.declared.word.Word.{Word}
 use Rattle.drum_deck.specs.DeckText.{Line, card, Given, given_by_card, given_by, given_from, given_at, card_of, IsGiven}
-use Rattle.drum_deck.proofs.Loads.{or_else, given_at-append, given_at_card_out, given_from-push, or_else_none}
-use Rattle.drum_deck.proofs.Loads.{found_is_given}
+use Rattle.drum_deck.proofs.InDeckLaws.{or_else, given_at-append, given_at_card_out, given_from-push, or_else_none}
+use Rattle.drum_deck.proofs.InDeckLaws.{found_is_given}
 
 -- a card gives its line to the locations between its first and its last
 line_at_card_in : (number first : ℕ) (words : List Word) (n : ℕ) → first ≤ n → n < first + length words

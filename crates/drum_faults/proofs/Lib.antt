@@ -10,5 +10,5 @@ mod Passed
 mod Placed
 mod PlacedInputs
 mod SoFar
-mod Told
+mod ReadSoFar
 mod ToldInputs

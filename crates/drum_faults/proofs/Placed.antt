@@ -6,12 +6,12 @@ use Rattle.drum_deck.specs.declared.deck.fault.DeckFault.TheVariants.{Card, Twic
 use Rattle.drum_core.specs.declared.location.Location.{Location}
 use Rattle.drum_core.specs.declared.word.Word.{Word}
 use Rattle.drum_deck.specs.DeckText.{Line, start, card, IsLine, card_of, given_from, starts, IsPastDrum}
-use Rattle.drum_deck.specs.Loaded.{IsFirstLoaded}
+use Rattle.drum_deck.specs.FirstLoaded.{IsFirstLoaded}
 use Rattle.drum_faults.specs.DeckFaults.{IsPlaced}
 use Rattle.drum_faults.specs.DeckSoFar.{Gave}
 use Rattle.drum_faults.specs.Slip.{slip_in}
 use Rattle.drum_faults.specs.declared.slip.Slip.{Slip}
-use Rattle.drum_deck.proofs.Loads.{not_given}
+use Rattle.drum_deck.proofs.InDeckLaws.{not_given}
 use Rattle.drum_faults.proofs.GivenLines.{given_at-none, given_of_line}
 use Rattle.drum_faults.proofs.SoFar.{some_starts}
 

@@ -9,7 +9,7 @@ use Rattle.drum_deck.specs.DeckText.{Line, comment, start, card, card_of, given_
 use Rattle.drum_deck.proofs.FaultLaws.{starts-append}
 use Rattle.drum_faults.specs.DeckFaults.{first_start}
 use Rattle.drum_faults.specs.DeckSoFar.{Gave}
-use Rattle.drum_deck.proofs.Loads.{not_given, sound_more, sound_card}
+use Rattle.drum_deck.proofs.InDeckLaws.{not_given, sound_more, sound_card}
 use Rattle.drum_faults.proofs.GivenLines.{card_of-more_in, card_of-more_out, card_of-quiet, given_at-none}
 
 -- where there is a first start, there is a start

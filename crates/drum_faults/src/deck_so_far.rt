@@ -1,5 +1,5 @@
 ghost use Rattle.std.specs.Prelude.{◌≡◌, ℕ, ◌+◌, ◌<◌, ◌≤◌, ◌⊎◌, vec_len, slice_get, IfSome, IfNone};
-ghost use Rattle.drum_deck.specs.Loaded.{IsFirstLoaded};
+ghost use Rattle.drum_deck.specs.FirstLoaded.{IsFirstLoaded};
 
 use crate::placed_fault::PlacedFault;
 use crate::slip::Slip;

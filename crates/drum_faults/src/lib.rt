@@ -7,9 +7,9 @@
 //! what the lines of a deck so far have given, and the fault of the next one. `faults_of_deck` has
 //! all faults of a deck's text, in the order of its lines, and `faults_of_inputs` those of a text
 //! of inputs. `loaded` are the locations that both a deck and inputs load. `alike` are faults to
-//! whose lines the same was done. `named_text` is a text with its file's name, and `behind` a text
-//! in memory, with what is said of a fault behind it. `lines_of_faults` has the lines of all faults
-//! of a deck, a timing table, notes and inputs. `laws` has laws of the definitions.
+//! whose lines the same was done. `named_text` is a text with its file's name, and `fault_text` a
+//! text in memory, with what is said of a fault behind it. `lines_of_faults` has the lines of all
+//! faults of a deck, a timing table, notes and inputs. `laws` has laws of the definitions.
 //!
 //! Definitions, in the order to read them: `Slip` (with `SlipTests`) says what was done to a line,
 //! `ByLine` what all faults of a text by lines are, `DeckFaults` which those of a deck's text,
@@ -21,8 +21,8 @@
 #![tactic(auto)]
 
 mod alike;
-mod behind;
 mod deck_so_far;
+mod fault_text;
 mod faults_of_deck;
 mod faults_of_inputs;
 mod first_past;

@@ -8,7 +8,7 @@ ghost use Rattle.drum_faults.specs.FaultLines.{AreDocumentLines, AreFaultLines};
 ghost use Rattle.drum_faults.specs.FaultLines.{AreLinesOfInputs};
 ghost use Rattle.drum_faults.specs.NamedTexts.{named, complaint_said};
 
-use crate::behind::{
+use crate::fault_text::{
     with_deck_faults, with_input_faults, with_loaded, with_message, with_notes_faults,
     with_times_faults,
 };

@@ -1,6 +1,6 @@
 ghost use Rattle.std.specs.Prelude.{◌≡◌, ◌≢◌, [], map, filter, false, IfOk};
 ghost use Rattle.std.specs.Option.{is_some};
-ghost use Rattle.drum_deck.specs.Loads.{loads_in};
+ghost use Rattle.drum_deck.specs.InDeck.{loads_in};
 ghost use Rattle.drum_faults.specs.FaultLines.{AreLoadedTwice};
 
 use drum_core::{Location, Word};

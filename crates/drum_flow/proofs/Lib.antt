@@ -1,11 +1,12 @@
 pub mod Adding
 pub mod Additions
 pub mod Alikes
+pub mod Among
 mod Checks
 pub mod DataAngles
 pub mod Founds
 pub mod FromAngles
-pub mod HeldNodes
+pub mod InNodesLaws
 pub mod Instructed
 pub mod KeptOpen
 pub mod KeptWalk

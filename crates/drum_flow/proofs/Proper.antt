@@ -6,7 +6,7 @@ use Rattle.std.proofs.lemmas.Option.{slice_get_within}
 use Rattle.drum_deck.specs.declared.deck.Deck.{Deck}
 use Rattle.drum_deck.specs.declared.deck.Given.{Given}
 use Rattle.drum_core.specs.declared.word.Word.{Word}
-use Rattle.drum_deck.specs.Loads.{found_in, loads_in}
+use Rattle.drum_deck.specs.InDeck.{found_in, loads_in}
 use Rattle.drum_times.specs.declared.times.Times.{Times}
 use Rattle.drum_times.specs.Allowed.{Notes, AreSound}
 use Rattle.drum_flow.specs.SettingOf.{setting}

@@ -45,9 +45,9 @@ IsFreeLink loads notes node next =
 abbrev pub product_of : List ℕ → List Mark → ℕ
 product_of executed marks = length executed * counts_of marks
 
--- a product as it is told: 2^127 in place of any that is more
-abbrev pub told : ℕ → ℕ
-told product = min product (2 ^ 127)
+-- a number as it is counted: 2^127 in place of any that is more
+abbrev pub capped : ℕ → ℕ
+capped product = min product (2 ^ 127)
 
 -- Admitted, whatever the size: each executed location is loaded or listed, has operations of the
 -- profile alone, and is written by an executed instruction only if it has a list; the flow graph
@@ -65,8 +65,8 @@ pub record IsAdmitted (loads : ℕ → Option Word) (notes : Notes) (start : ℕ
   pub bounded : (first : Node) (others : List Node) → IsNode loads notes start first
       → ¬ IsClosed (IsFreeLink loads notes) (first ∷ others)
 
--- The deck with its notes is accepted, for a bound: it is admitted, and small, and the notes have no
--- calls.
+-- The deck with its notes is accepted, for a bound: it is admitted, and small, and the notes have
+-- no calls.
 pub record IsAccepted (loads : ℕ → Option Word) (notes : Notes) (start : ℕ)
     (executed : List ℕ) : Type 0 where
   pub admitted : IsAdmitted loads notes start executed
@@ -162,13 +162,13 @@ pub record IsSound (loads : ℕ → Option Word) (notes : Notes) (start : ℕ) :
   pub unaltered : (place : ℕ) (ins : Instruction) → IsExecuted loads notes start place
       → Contains (allowed loads notes place) ins → ¬ Alters loads notes start ins
 
--- TooLarge: the deck with its notes is sound, and this is its product as it is told, above
+-- TooLarge: the deck with its notes is sound, and this is its product, capped, above
 -- 4,000,000.
 abbrev pub IsTooLarge : (ℕ → Option Word) → Notes → ℕ → ℕ → Type 0
 IsTooLarge loads notes start product =
     IsSound loads notes start × (4000000 < product)
     × ((executed : List ℕ) × IsOrder loads notes start executed
-    × (product ≡ told (product_of executed notes.marks)))
+    × (product ≡ capped (product_of executed notes.marks)))
 
 -- no member is smaller than the first
 abbrev pub IsSmallestFirst : List ℕ → Type 0

@@ -5,7 +5,7 @@ use Rattle.drum_times.specs.Allowed.{Notes}
 use Rattle.drum_flow.specs.declared.discovery.Discovery.{Discovery}
 use Rattle.drum_flow.specs.declared.discovery.Discovery.TheVariants.{Whole, TooMany}
 use Rattle.drum_flow.specs.Executed.{found_after, AreAllNodes}
-use Rattle.drum_flow.specs.Held.{AreHeld, nodes_in}
+use Rattle.drum_flow.specs.InNodes.{AreHeld, nodes_in}
 use Rattle.drum_flow.specs.Hops.{Node}
 
 -- These are the nodes that discovery has met in its first turns.

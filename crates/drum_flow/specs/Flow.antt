@@ -2,13 +2,13 @@
 use Rattle.std.specs.Prelude.{ℕ, List, Option, Contains}
 use Rattle.drum_deck.specs.declared.deck.Deck.{Deck}
 use Rattle.drum_core.specs.declared.word.Word.{Word}
-use Rattle.drum_deck.specs.Loads.{loads_in, start_in}
+use Rattle.drum_deck.specs.InDeck.{loads_in, start_in}
 use Rattle.drum_times.specs.Allowed.{Notes}
 use Rattle.drum_flow.specs.declared.flow_graph.Flow.{Flow}
 use Rattle.drum_flow.specs.Accepted.{IsGood}
 use Rattle.drum_flow.specs.Executed.{IsOrder}
 use Rattle.drum_flow.specs.Found.{places_of}
-use Rattle.drum_flow.specs.Held.{nodes_in}
+use Rattle.drum_flow.specs.InNodes.{nodes_in}
 use Rattle.drum_flow.specs.Hops.{IsExecuted, Node}
 
 -- the deck and the notes that a flow is of

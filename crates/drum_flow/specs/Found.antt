@@ -3,11 +3,11 @@ use Rattle.std.specs.Prelude.{ℕ, List, map, filter_map, flat_map}
 use Rattle.drum_core.specs.declared.instruction.Instruction.{Instruction}
 use Rattle.drum_times.specs.Allowed.{Notes}
 use Rattle.drum_machine.specs.Ways.{Way, ways}
-use Rattle.drum_flow.specs.declared.executed.Executed.{Executed}
+use Rattle.drum_flow.specs.declared.location_set.LocationSet.{LocationSet}
 use Rattle.drum_flow.specs.Executed.{target_of}
 
 -- the numbers of the locations, in order
-abbrev pub places_of : Executed → List ℕ
+abbrev pub places_of : LocationSet → List ℕ
 places_of executed = map (λ location. location.number) executed.locations.keys
 
 -- where ways go on

@@ -5,7 +5,7 @@ pub mod Discovered
 pub mod Executed
 pub mod Flow
 pub mod Found
-pub mod Held
+pub mod InNodes
 pub mod Hops
 pub mod HopsLeft
 pub mod Instructions
@@ -20,6 +20,7 @@ pub mod RunHops
 pub mod Seen
 pub mod SettingOf
 pub mod Slower
+pub mod Taken
 pub mod Turned
 pub mod Walk
 pub mod WalkTime

@@ -1,6 +1,6 @@
 -- What the walks of a deck under its notes are walks of, as the code has it.
 use Rattle.drum_deck.specs.declared.deck.Deck.{Deck}
-use Rattle.drum_deck.specs.Loads.{loads_in, start_in}
+use Rattle.drum_deck.specs.InDeck.{loads_in, start_in}
 use Rattle.drum_times.specs.declared.times.Times.{Times}
 use Rattle.drum_times.specs.Allowed.{Notes}
 use Rattle.drum_times.specs.Entries.{entry_in}

@@ -2,19 +2,19 @@
 
 ghost use Rattle.std.specs.Prelude.{◌≡◌, ℕ, ◌<◌, ◌≤◌, Contains, IfOk, IfErr, OnOk, Some};
 ghost use Rattle.std.specs.Prelude.{length, map, slice_get, take};
-ghost use Rattle.drum_deck.specs.Loads.{loads_in, start_in};
+ghost use Rattle.drum_deck.specs.InDeck.{loads_in, start_in};
 ghost use Rattle.drum_flow.specs.Accepted.{IsGood};
 ghost use Rattle.drum_flow.specs.Discovered.{AreMet, IsDiscovered};
 ghost use Rattle.drum_flow.specs.Executed.{each_place, AreAllNodes};
 ghost use Rattle.drum_flow.specs.Flow.{deck_of, notes_of, nodes_of, executed_in};
 ghost use Rattle.drum_flow.specs.Flow.{AreFound, AreExecuted};
 ghost use Rattle.drum_flow.specs.Found.{places_of};
-ghost use Rattle.drum_flow.specs.Held.{nodes_in};
+ghost use Rattle.drum_flow.specs.InNodes.{nodes_in};
 ghost use Rattle.drum_flow.specs.Hops as graphs;
 ghost use Rattle.drum_flow.specs.Refused.{IsDiscoveryRefusal, IsFirstWrong, IsFlowRefusal};
 
-use crate::executed::Executed;
 use crate::flow_graph::Flow;
+use crate::location_set::LocationSet;
 use crate::nodes::Nodes;
 use crate::place::check_place;
 use crate::refusal::Refusal;
@@ -103,7 +103,8 @@ pub fn discover<'a>(alloc: Global, deck: &'a Deck, notes: &'a Notes) -> Result<F
 ///
 /// # Errors
 ///
-/// [`AllocError`] where there is no memory for it; or too many nodes, which it had before.
+/// [`AllocError`] where there is no memory for it. (It never has too many nodes, since it was made
+/// before.)
 pub fn rediscover<'a>(
     alloc: Global,
     deck: &'a Deck,
@@ -145,7 +146,7 @@ fn good_locations(
     deck: &Deck,
     notes: &Notes,
     nodes: &Nodes,
-) -> Result<Executed, Refusal>
+) -> Result<LocationSet, Refusal>
     requires { AreMet (loads_in deck.now) notes.now (start_in deck.now)
         (nodes_in notes.now.calls nodes.now) }
     ensures places { IfOk result (λ executed. places_of executed

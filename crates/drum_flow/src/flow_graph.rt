@@ -1,9 +1,9 @@
 ghost use Rattle.std.specs.Prelude.{◌≤◌, length};
-ghost use Rattle.drum_flow.specs.Held.{AreHeld};
+ghost use Rattle.drum_flow.specs.InNodes.{AreHeld};
 ghost use Rattle.drum_flow.specs.OneProof.{one_proof};
 
-use crate::executed::Executed;
 use crate::hops::Hops;
+use crate::location_set::LocationSet;
 use crate::nodes::Nodes;
 use drum_core::Location;
 use drum_deck::Deck;
@@ -16,15 +16,16 @@ pub struct Flow<'a> {
     pub(crate) deck: &'a Deck,
     pub(crate) notes: &'a Notes,
     pub(crate) nodes: Nodes,
-    pub(crate) executed: Executed,
+    pub(crate) executed: LocationSet,
     ghost held: { AreHeld notes.now.calls nodes } by { Prim.hlevel one_proof },
     ghost few: { length nodes.nodes.keys ≤ 65536 },
 }
 
 impl<'a> Flow<'a> {
-    ghost use Rattle.std.specs.Prelude.{◌≡◌, ◌≤◌, ◌<◌, [], ◌∷◌, map, length, slice_get, Some, Contains};
+    ghost use Rattle.std.specs.Prelude.{◌≡◌, ◌≤◌, ◌<◌, [], ◌∷◌, map, length, slice_get, Some};
+    ghost use Rattle.std.specs.Prelude.{Contains};
     ghost use Rattle.std.specs.Prelude.{IfSome, IfNone};
-    ghost use Rattle.drum_deck.specs.Loads.{loads_in};
+    ghost use Rattle.drum_deck.specs.InDeck.{loads_in};
     ghost use Rattle.drum_order.specs.Graph.{AreDifferent};
     ghost use Rattle.drum_flow.specs.Hops as said;
     ghost use Rattle.drum_flow.specs.HopsLeft.{hops_left};

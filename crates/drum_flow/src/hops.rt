@@ -2,7 +2,7 @@
 
 ghost use Rattle.std.specs.Prelude.{◌≡◌, [], flat_map};
 ghost use Rattle.std.specs.Iterator.{YieldsFirstBy, item_count};
-ghost use Rattle.drum_deck.specs.Loads.{loads_in};
+ghost use Rattle.drum_deck.specs.InDeck.{loads_in};
 ghost use Rattle.drum_flow.specs.Hops as said;
 ghost use Rattle.drum_flow.specs.Hops.{hops_of};
 ghost use Rattle.drum_flow.specs.HopsLeft.{hops_here, hops_left};

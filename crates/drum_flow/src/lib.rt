@@ -4,8 +4,8 @@
 //! Code, from the bottom up. `instructions` (allowed at a location) and `hops` are iterators that
 //! store no more than one instruction and its ways. `patterns` are those of a location, with the
 //! deck's own instruction as one. `alike` says up to which data address instructions write the same
-//! words, or have the same ways. `executed` is a set of locations in the order in which they are
-//! found, and `successors` adds those of a location to it, pattern by pattern. A `node` is a
+//! words, or have the same ways. `location_set` is a set of locations in the order in which they
+//! are found, and `successors` adds those of a location to it, pattern by pattern. A `node` is a
 //! location with what is open there at the exits of calls; `nodes` is a set of them, and `openings`
 //! finds what is open behind a step. `place` says whether one location is in order (faults 32 and
 //! 33). `discovery` has `discover`, which makes the `Flow` of `flow_graph` whatever stands at its
@@ -15,32 +15,34 @@
 //! hop. `laws` has laws of the definitions.
 //!
 //! Definitions, in the order to read them: `Hops` (hops, edges, nodes, and what is executed),
-//! `Executed` (the order of discovery), `Accepted` (when a deck is, and each refusal), `Walk`,
-//! `RunHops` (the hops of a run), `Bounded` (what no kept run uses more than), and `Longest` (the
-//! latest clock at which a hop can end). `Profile` says by which ways an instruction may end.
-//! `MostPasses` has the number that no walk passes a mark more often than (the law is in `laws`).
-//! `Passes` (a pass raises the counts), `WalkTime` (what a walk's time depends on) and `Slower` (a
-//! timing table that is nowhere quicker than another) have the words of laws. The others say what
-//! the code's types and loops mean by these: of hops `Patterns`, `Instructions`, `HopsLeft`, `Seen`
-//! and `Alike`; of discovery `Held`, `Discovered`, `Found`, `Refused` and `Flow`; of cycles
-//! `Turned`; of walks `SettingOf`.
+//! `Executed` (the order of discovery), `Taken` (whether a step may go on from one location to
+//! another), `Accepted` (when a deck is, and each refusal), `Walk`, `RunHops` (the hops of a run),
+//! `Bounded` (what no kept run uses more than), and `Longest` (the latest clock at which a hop can
+//! end). `Profile` says by which ways an instruction may end. `MostPasses` has the number that no
+//! walk passes a mark more often than (the law is in `laws`). `Passes` (a pass raises the counts),
+//! `WalkTime` (what a walk's time depends on) and `Slower` (a timing table that is nowhere quicker
+//! than another) have the words of laws. The others say what the code's types and loops mean by
+//! these: of hops `Patterns`, `Instructions`, `HopsLeft`, `Seen` and `Alike`; of discovery
+//! `InNodes`, `Discovered`, `Found`, `Refused` and `Flow` (with `OneProof`, that what it asks for
+//! has one proof); of cycles `Turned`; of walks `SettingOf`.
 //!
 //! Proofs. `Checks` evaluates definitions on a deck of two words. These have laws that other crates
-//! use: `LongestLaws`, of the latest ends; `FromAngles`, how long a hop takes from an angle;
-//! `DataAngles`, with which D as long; `Orders`, of the order of discovery; `KeptWalk`, why a kept
-//! run is a walk; `Adding`, lemmas on lists that grow. `Links` has which nodes edges lead to, with
-//! `HeldNodes` and `KeptOpen` on what is open there. `PassLaws` and `WalkPasses` show how often a
-//! walk passes a mark, and `SlowerTables` that walks by a slower timing table are slower.
+//! use: `Among`, whether a location is one of some; `LongestLaws`, of the latest ends;
+//! `FromAngles`, how long a hop takes from an angle; `DataAngles`, with which D as long; `Orders`,
+//! of the order of discovery; `KeptWalk`, why a kept run is a walk; `Adding`, lemmas on lists that
+//! grow. `Links` has which nodes edges lead to, with `InNodesLaws` and `KeptOpen` on what is open
+//! there. `PassLaws` and `WalkPasses` show how often a walk passes a mark, and `SlowerTables` that
+//! walks by a slower timing table are slower.
 #![tactic(auto)]
 
 pub mod alike;
 mod cycle;
 mod discovery;
-pub mod executed;
 mod flow_graph;
 mod hops;
 mod instructions;
 pub mod laws;
+pub mod location_set;
 pub mod longest;
 mod node;
 mod nodes;

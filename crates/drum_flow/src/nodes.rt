@@ -3,7 +3,7 @@ ghost use Rattle.std.specs.Option.{option_eq};
 ghost use Rattle.std.specs.Prelude.{option_map, slice_get, Contains, Some, IfOk, IfSome, IfNone};
 ghost use Rattle.std.specs.Prelude.{OnOk, take};
 ghost use Rattle.std.specs.Cmp.Lexicographic.{pointwise};
-ghost use Rattle.drum_deck.specs.Loads.{loads_in};
+ghost use Rattle.drum_deck.specs.InDeck.{loads_in};
 ghost use Rattle.drum_times.specs.declared.notes.call.Call as said;
 ghost use Rattle.drum_machine.specs.Calls.{none_open};
 ghost use Rattle.drum_machine.specs.OpenIn.{open_in};
@@ -11,9 +11,9 @@ ghost use Rattle.drum_order.specs.Graph.{AreDifferent};
 ghost use Rattle.drum_flow.specs.Executed.{each_place, next_nodes, onward, same_node, with_new_by};
 ghost use Rattle.drum_flow.specs.Found.{places_of};
 ghost use Rattle.drum_flow.specs.Hops as graphs;
-ghost use Rattle.drum_flow.specs.Held.{AreHeld, ArePlacedIn, node_in, nodes_in, ways_in};
+ghost use Rattle.drum_flow.specs.InNodes.{AreHeld, ArePlacedIn, node_in, nodes_in, ways_in};
 
-use crate::executed::Executed;
+use crate::location_set::LocationSet;
 use crate::node::Node;
 use crate::openings::{behind, index_behind};
 use drum_core::Location;
@@ -145,7 +145,7 @@ impl Nodes {
             (next_nodes (loads_in deck.now) notes.now (node_in notes.now.calls self.old from))) }
         ensures held { OnOk result (AreHeld notes.now.calls self.new) }
     {
-        let mut targets = Executed::none(alloc);
+        let mut targets = LocationSet::none(alloc);
         targets.add_successors(deck, notes, from.location)?;
         for onto in targets.locations() {
             self.add_onward(notes, from, *onto)?;
@@ -162,11 +162,11 @@ impl Nodes {
     }
 
     /// The locations of the first nodes, of as many as a flow graph has at most, each once.
-    pub fn locations(&self, alloc: Global, calls: &[Call]) -> Result<Executed, AllocError>
+    pub fn locations(&self, alloc: Global, calls: &[Call]) -> Result<LocationSet, AllocError>
         ensures { IfOk result (λ executed. places_of executed
             ≡ each_place (take 65536 (nodes_in calls.now self.now))) }
     {
-        let mut executed = Executed::none(alloc);
+        let mut executed = LocationSet::none(alloc);
         for node in self.first() {
             executed.add(node.location)?;
         }

@@ -1,12 +1,13 @@
 //! What is open at the nodes of a flow graph, each once, by its index.
 
 ghost use Rattle.std.specs.Prelude.{◌≡◌, ℕ, ◌<◌, ◌≤◌, [], true, nat_eq, List, Option, length};
-ghost use Rattle.std.specs.Prelude.{slice_get, slice_index_or, Contains, Some, IfOk, IfErr, IfSome, IfNone};
+ghost use Rattle.std.specs.Prelude.{slice_get, slice_index_or, Contains, Some, IfOk, IfErr, IfSome};
+ghost use Rattle.std.specs.Prelude.{IfNone};
 ghost use Rattle.std.specs.Option.{option_eq};
 ghost use Rattle.std.specs.Cmp.Lexicographic.{pointwise};
 ghost use Rattle.drum_machine.specs.Calls.{open_after};
 ghost use Rattle.drum_machine.specs.OpenIn.{between, open_in};
-ghost use Rattle.drum_flow.specs.Held.{ArePlacedIn, ways_in};
+ghost use Rattle.drum_flow.specs.InNodes.{ArePlacedIn, ways_in};
 
 use drum_core::Location;
 use drum_machine::Open;

@@ -1,7 +1,7 @@
 //! Whether a location is loaded or listed, with operations in the profile alone.
 
 ghost use Rattle.std.specs.Prelude.{◌≡◌, MatchBool, IfSome, IfNone, IfErr, OnOk};
-ghost use Rattle.drum_deck.specs.Loads.{loads_in};
+ghost use Rattle.drum_deck.specs.InDeck.{loads_in};
 ghost use Rattle.drum_times.specs.Allowed as listed;
 ghost use Rattle.drum_times.specs.Allowed.{allowed};
 ghost use Rattle.drum_flow.specs.Accepted.{IsThere, IsInProfile, IsGood, IsFirstIn, IsOutside};

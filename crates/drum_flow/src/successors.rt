@@ -1,14 +1,14 @@
 //! The locations that the instructions of a location go on at, pattern by pattern.
 
 ghost use Rattle.std.specs.Prelude.{◌≡◌, OnOk};
-ghost use Rattle.drum_deck.specs.Loads.{loads_in};
+ghost use Rattle.drum_deck.specs.InDeck.{loads_in};
 ghost use Rattle.drum_times.specs.Allowed.{matching};
 ghost use Rattle.drum_flow.specs.Executed.{with_new, successors};
 ghost use Rattle.drum_flow.specs.Found.{places_of, targets_of, targets_by};
 ghost use Rattle.drum_machine.specs.WaysLeft.{ways_left};
 
 use crate::alike::same_ways_end;
-use crate::executed::Executed;
+use crate::location_set::LocationSet;
 use crate::patterns::{Patterns, instruction_of};
 use drum_core::Location;
 use drum_deck::Deck;
@@ -16,7 +16,7 @@ use drum_machine::{Way, Ways};
 use drum_times::{Notes, Pattern};
 use std::alloc::AllocError;
 
-impl Executed {
+impl LocationSet {
     /// Adds the successors of a location, in the order of its hops, unless they are there.
     pub fn add_successors(
         &mut self,

@@ -1,4 +1,3 @@
-pub mod Among
 mod Checks
 pub mod Edges
 pub mod Nodes

@@ -18,13 +18,14 @@ use Rattle.drum_flow.specs.Executed.{each_place, may_go, onward, successors, wit
 use Rattle.drum_flow.specs.Flow.{AreFound}
 use Rattle.drum_flow.specs.Hops as flow
 use Rattle.drum_flow.specs.Hops.{edge_between, hops, IsEdge, IsLink, IsNode}
+use Rattle.drum_flow.specs.Taken.{is_taken, may_go_on}
 use Rattle.drum_flow.proofs.Additions.{with_new_append}
-use Rattle.drum_flow.proofs.HeldNodes.{one_onward}
+use Rattle.drum_flow.proofs.InNodesLaws.{one_onward}
 use Rattle.drum_flow.proofs.Links.{may_go_law}
 use Rattle.drum_flow.proofs.Orders.{any_contains, has_reached, hop_there, node_of_place, reached_next, reached_only, target_there}
 use Rattle.drum_flow.proofs.Orders.{with_new_has, with_new_only}
 use Rattle.drum_acceptance.proofs.Acceptances.{one_reached}
-use Rattle.drum_graph.specs.Graph.{goes_on, is_taken, nexts}
+use Rattle.drum_graph.specs.Graph.{nexts}
 use Rattle.drum_graph.specs.GraphOf.{AreAt}
 
 -- a test that a member passes is passed by some, and one that none passes isn't
@@ -195,7 +196,7 @@ module _ (nodes : List flow.Node) (place : ℕ) where
 -- a node at another location, or from which no step may go on, doesn't go on
 goes_not : (notes : Notes) (place next : ℕ) (node : flow.Node)
     → (node.place ≡ place → may_go notes.calls node.ways (edge_between node.place next) ≡ false)
-    → goes_on notes place next node ≡ false
+    → may_go_on notes place next node ≡ false
 goes_not notes place next node none = go (eqb node.place place) refl
   where
     go : (b : Bool) → eqb node.place place ≡ b
@@ -204,7 +205,7 @@ goes_not notes place next node none = go (eqb node.place place) refl
     go false is = refl
 
 goes : (notes : Notes) (place next : ℕ) (node : flow.Node) → node.place ≡ place
-    → may_go notes.calls node.ways (edge_between node.place next) ≡ true → goes_on notes place next node ≡ true
+    → may_go notes.calls node.ways (edge_between node.place next) ≡ true → may_go_on notes place next node ≡ true
 goes notes place next node there may =
     ap (λ (b : Bool). b && may_go notes.calls node.ways (edge_between node.place next))
     ((Decides-eqb node.place place).1 there) ∙ may
@@ -214,7 +215,7 @@ pub is_taken_by : (notes : Notes) (nodes : List flow.Node) (place next index : �
     → slice_get nodes index ≡ Some node → node.place ≡ place
     → may_go notes.calls node.ways (edge_between node.place next) ≡ true → is_taken notes nodes place next ≡ true
 is_taken_by notes nodes place next index node at there may =
-    some_passes (goes_on notes place next) nodes node (contains_from_get nodes index node at)
+    some_passes (may_go_on notes place next) nodes node (contains_from_get nodes index node at)
     (goes notes place next node there may)
 
 pub is_not_taken : (notes : Notes) (nodes : List flow.Node) (place next : ℕ) (indices : List ℕ)
@@ -223,7 +224,7 @@ pub is_not_taken : (notes : Notes) (nodes : List flow.Node) (place next : ℕ) (
     → may_go notes.calls node.ways (edge_between node.place next) ≡ false)
     → is_taken notes nodes place next ≡ false
 is_not_taken notes nodes place next indices are none =
-    none_passes (goes_on notes place next) nodes
+    none_passes (may_go_on notes place next) nodes
     (λ index node at. goes_not notes place next node
     (λ there. none index node (are.all index node (slice_get_within nodes index node at) at there) at))
 
@@ -335,7 +336,7 @@ module _ (loads : ℕ → Option Word) (notes : Notes) (start : ℕ) (nodes : Li
   nexts_links place next = (
     λ there.
         let passes = only_kept (is_taken notes nodes place) (targets place) next there in
-        let one = one_that_passes (goes_on notes place next) nodes passes.1 in
+        let one = one_that_passes (may_go_on notes place next) nodes passes.1 in
         let node = one.0 in
         let both = and_parts (eqb node.place place) (may_go notes.calls node.ways (edge_between node.place next)) one.2 in
         let at : node.place ≡ place = (Decides-eqb node.place place).0 both.0 in
@@ -351,7 +352,7 @@ module _ (loads : ℕ → Option Word) (notes : Notes) (start : ℕ) (nodes : Li
         ap (λ (n : ℕ). may_go notes.calls one.ways (edge_between one.place n)) (sym onto)
         ∙ (may_go_law notes.calls one.ways (edge_between one.place other.place)).1 link.may in
         kept (is_taken notes nodes place) (targets place) next (edge_target place next edge)
-        (some_passes (goes_on notes place next) nodes one (has_reached loads notes start nodes are one reached)
+        (some_passes (may_go_on notes place next) nodes one (has_reached loads notes start nodes are one reached)
         (goes notes place next one at may)),
   )
 
@@ -364,7 +365,7 @@ module _ (loads : ℕ → Option Word) (notes : Notes) (start : ℕ) (nodes : Li
         (elim (with_new_only [] (map (λ (one : flow.Node). one.place) nodes) place there) [
           | inl none ↦ absurd (contains_none place none)
           | inr has ↦ (let found = node_of_place nodes place has in
-              some_passes (goes_on notes place next) nodes found.0 found.1
+              some_passes (may_go_on notes place next) nodes found.0 found.1
               (goes notes place next found.0 found.2
               (ap (λ (calls : List Call). may_go calls found.0.ways (edge_between found.0.place next)) without)))
         ]),

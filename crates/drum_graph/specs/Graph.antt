@@ -11,9 +11,10 @@ use Rattle.drum_times.specs.Allowed.{Notes, allowed}
 use Rattle.drum_machine.specs.Ways.{Way, early, to, late}
 use Rattle.drum_machine.specs.Writes.{writes}
 use Rattle.drum_order.specs.Search.{last_of}
-use Rattle.drum_flow.specs.Executed.{each_place, may_go, successors, with_new, AreAllNodes}
+use Rattle.drum_flow.specs.Executed.{each_place, successors, with_new, AreAllNodes}
 use Rattle.drum_flow.specs.Hops as flow
-use Rattle.drum_flow.specs.Hops.{edge_between, hops}
+use Rattle.drum_flow.specs.Hops.{hops}
+use Rattle.drum_flow.specs.Taken.{is_among, is_taken}
 
 -- what is drawn as a box: an executed word, and in an outline those behind it, to which it goes
 -- straight on; then its next ones are those of the last word
@@ -56,34 +57,20 @@ stops late = true
 abbrev pub may_stop : (ℕ → Option Word) → Notes → ℕ → Bool
 may_stop loads notes place = list_any (λ hop. stops hop.way) (hops loads notes place)
 
--- whether a node of the flow graph stands at the one location, and a step may go on from it to the
--- other
-abbrev pub goes_on : Notes → ℕ → ℕ → flow.Node → Bool
-goes_on notes place next node =
-    node.place == place && may_go notes.calls node.ways (edge_between node.place next)
-
--- whether a step may go on from some node of these
-abbrev pub is_taken : Notes → List flow.Node → ℕ → ℕ → Bool
-is_taken notes nodes place next = list_any (goes_on notes place next) nodes
-
 -- where the instructions of a location go on, each location once, of those to which a step may go
 -- on: these are the nodes of the flow graph
 abbrev pub nexts : (ℕ → Option Word) → Notes → List flow.Node → ℕ → List ℕ
 nexts loads notes nodes place =
     filter (is_taken notes nodes place) (with_new [] (successors loads notes place))
 
--- whether a location is one of these
-abbrev pub is_among : List ℕ → ℕ → Bool
-is_among executed place = list_any (λ one. one == place) executed
-
 -- the executed words that an instruction writes
-abbrev pub written_by : List ℕ → Instruction → List ℕ
-written_by executed ins = filter (is_among executed) (writes ins)
+abbrev pub executed_writes : List ℕ → Instruction → List ℕ
+executed_writes executed ins = filter (is_among executed) (writes ins)
 
 -- those that the instructions of a location write, each once
 abbrev pub written : (ℕ → Option Word) → Notes → List ℕ → ℕ → List ℕ
 written loads notes executed place =
-    with_new [] (flat_map (written_by executed) (allowed loads notes place))
+    with_new [] (flat_map (executed_writes executed) (allowed loads notes place))
 
 -- what is drawn of a location, where these are the nodes of the flow graph
 abbrev pub node : (ℕ → Option Word) → Notes → List flow.Node → ℕ → Node

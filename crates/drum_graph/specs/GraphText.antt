@@ -89,8 +89,8 @@ end_text closes = colour_text closes ++ codes "\n"
 abbrev pub arrow_text : ℕ → ℕ → List ℕ
 arrow_text from onto = digits_of 4 from ++ codes " -> " ++ digits_of 4 onto
 
--- the line of an edge of a box, which leads from its last word, with the mark that stands on it; one
--- that closes a loop has none
+-- the line of an edge of a box, which leads from its last word, with the mark that stands on it;
+-- one that closes a loop has none
 abbrev pub edge_text : List Mark → List (ℕ × ℕ) → Node → ℕ → List ℕ
 edge_text marks loops node onto =
     arrow_text node.place onto ++ mark_label marks (mark_on marks (last_word node) onto)

@@ -5,7 +5,8 @@ use Rattle.std.specs.List.{list_any}
 use Rattle.drum_times.specs.declared.notes.mark.Mark.{Mark}
 use Rattle.drum_times.specs.Marks.{mark_on}
 use Rattle.drum_flow.specs.Executed.{with_new}
-use Rattle.drum_graph.specs.Graph.{Node, is_among, last_word}
+use Rattle.drum_flow.specs.Taken.{is_among}
+use Rattle.drum_graph.specs.Graph.{Node, last_word}
 use Rattle.drum_graph.specs.GraphText.{is_loop}
 
 -- whether some word writes the word at a location

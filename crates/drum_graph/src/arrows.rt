@@ -4,7 +4,7 @@
 ghost use Rattle.std.specs.Prelude.{◌≡◌, ◌+◌, ◌^◌, ◌<◌, ◌≤◌, ◌++◌, codes, IfOk, Some};
 ghost use Rattle.std.specs.Prelude.{flat_map, length};
 ghost use Rattle.drum_flow.specs.Found.{places_of};
-ghost use Rattle.drum_lines.specs.Sent.{IsSent, fails_by};
+ghost use Rattle.drum_lines.specs.Sent.{IsSent, failed_writes};
 ghost use Rattle.drum_times.specs.Marks.{mark_on};
 ghost use Rattle.drum_graph.specs.GraphOf.{edges_in, node_of};
 ghost use Rattle.drum_graph.specs.GraphText.{arrow_text, colour_text, count_text, edge_text};
@@ -15,7 +15,7 @@ use crate::loops::Loops;
 use crate::node::Node;
 use drum_core::Location;
 use drum_devices::Output;
-use drum_flow::executed::Executed;
+use drum_flow::location_set::LocationSet;
 use drum_lines::{WriteFault, four_digits, name_pieces, send};
 use drum_times::Mark;
 use itoa::Buffer;
@@ -31,7 +31,7 @@ fn send_arrow<O: Output>(
     requires few { sent ≤ 2 ^ 60 }
     ensures sent { IsSent (O.written writer.old) (O.written writer.new) sent result
         (arrow_text from.number onto.number) }
-    ensures failures { O.failed writer.new ≡ O.failed writer.old + fails_by result }
+    ensures failures { O.failed writer.new ≡ O.failed writer.old + failed_writes result }
     ensures calls { O.called writer.new ≤ O.called writer.old + 20 }
     ensures few { IfOk result (λ total. total ≤ sent + 20) }
 {
@@ -53,7 +53,7 @@ fn send_count<O: Output>(
     requires place { place < 2 ^ 63 }
     ensures sent { IsSent (O.written writer.old) (O.written writer.new) sent result
         (count_text place most) }
-    ensures failures { O.failed writer.new ≡ O.failed writer.old + fails_by result }
+    ensures failures { O.failed writer.new ≡ O.failed writer.old + failed_writes result }
     ensures calls { O.called writer.new ≤ O.called writer.old + 60 }
     ensures few { IfOk result (λ total. total ≤ sent + 60) }
 {
@@ -79,7 +79,7 @@ fn send_inside<O: Output>(
     requires few { sent ≤ 2 ^ 60 }
     ensures sent { IsSent (O.written writer.old) (O.written writer.new) sent result
         (inside_text marks.now inside) }
-    ensures failures { O.failed writer.new ≡ O.failed writer.old + fails_by result }
+    ensures failures { O.failed writer.new ≡ O.failed writer.old + failed_writes result }
     ensures calls { O.called writer.new ≤ O.called writer.old + 40 }
     ensures few { IfOk result (λ total. total ≤ sent + 40) }
 {
@@ -99,7 +99,7 @@ fn send_name<O: Output>(writer: &mut O, sent: usize, mark: &Mark) -> Result<usiz
     requires few { sent ≤ 2 ^ 60 }
     ensures sent { IsSent (O.written writer.old) (O.written writer.new) sent result
         (named_text mark.now.name) }
-    ensures failures { O.failed writer.new ≡ O.failed writer.old + fails_by result }
+    ensures failures { O.failed writer.new ≡ O.failed writer.old + failed_writes result }
     ensures calls { O.called writer.new ≤ O.called writer.old + 40 }
     ensures few { IfOk result (λ total. total ≤ sent + 40) }
 {
@@ -121,7 +121,7 @@ fn send_mark<O: Output>(
     requires inside { place < length marks.now }
     ensures sent { IsSent (O.written writer.old) (O.written writer.new) sent result
         (mark_label marks.now (Some place)) }
-    ensures failures { O.failed writer.new ≡ O.failed writer.old + fails_by result }
+    ensures failures { O.failed writer.new ≡ O.failed writer.old + failed_writes result }
     ensures calls { O.called writer.new ≤ O.called writer.old + 140 }
     ensures few { IfOk result (λ total. total ≤ sent + 140) }
 {
@@ -143,7 +143,7 @@ fn send_mark_on<O: Output>(
     requires few { sent ≤ 2 ^ 58 }
     ensures sent { IsSent (O.written writer.old) (O.written writer.new) sent result
         (mark_label marks.now (mark_on marks.now from.number onto.number)) }
-    ensures failures { O.failed writer.new ≡ O.failed writer.old + fails_by result }
+    ensures failures { O.failed writer.new ≡ O.failed writer.old + failed_writes result }
     ensures calls { O.called writer.new ≤ O.called writer.old + 140 }
     ensures few { IfOk result (λ total. total ≤ sent + 140) }
 {
@@ -167,7 +167,7 @@ fn send_end<O: Output>(writer: &mut O, sent: usize, closes: bool) -> Result<usiz
     requires few { sent ≤ 2 ^ 60 }
     ensures sent { IsSent (O.written writer.old) (O.written writer.new) sent result
         (end_text closes) }
-    ensures failures { O.failed writer.new ≡ O.failed writer.old + fails_by result }
+    ensures failures { O.failed writer.new ≡ O.failed writer.old + failed_writes result }
     ensures calls { O.called writer.new ≤ O.called writer.old + 20 }
     ensures few { IfOk result (λ total. total ≤ sent + 20) }
 {
@@ -188,7 +188,7 @@ fn send_edge<O: Output>(
     requires few { sent ≤ 2 ^ 50 }
     ensures sent { IsSent (O.written writer.old) (O.written writer.new) sent result
         (edge_text marks.now (edges_in loops.now) (node_of node.now) onto.number) }
-    ensures failures { O.failed writer.new ≡ O.failed writer.old + fails_by result }
+    ensures failures { O.failed writer.new ≡ O.failed writer.old + failed_writes result }
     ensures calls { O.called writer.new ≤ O.called writer.old + 180 }
     ensures few { IfOk result (λ total. total ≤ sent + 180) }
 {
@@ -212,7 +212,7 @@ pub(crate) fn send_edges<O: Output>(
     ensures sent { IsSent (O.written writer.old) (O.written writer.new) begun result
         (flat_map (edge_text marks.now (edges_in loops.now) (node_of node.now))
         (places_of node.now.nexts)) }
-    ensures failures { O.failed writer.new ≡ O.failed writer.old + fails_by result }
+    ensures failures { O.failed writer.new ≡ O.failed writer.old + failed_writes result }
     ensures calls { O.called writer.new ≤ O.called writer.old + 360720 }
     ensures few { IfOk result (λ total. total ≤ begun + 360720) }
 {
@@ -234,7 +234,7 @@ fn send_word<O: Output>(
     requires few { sent ≤ 2 ^ 60 }
     ensures sent { IsSent (O.written writer.old) (O.written writer.new) sent result
         (written_text from.number word.number) }
-    ensures failures { O.failed writer.new ≡ O.failed writer.old + fails_by result }
+    ensures failures { O.failed writer.new ≡ O.failed writer.old + failed_writes result }
     ensures calls { O.called writer.new ≤ O.called writer.old + 50 }
     ensures few { IfOk result (λ total. total ≤ sent + 50) }
 {
@@ -249,13 +249,13 @@ pub(crate) fn send_words<O: Output>(
     writer: &mut O,
     begun: usize,
     from: Location,
-    words: &Executed,
+    words: &LocationSet,
 ) -> Result<usize, WriteFault>
     requires called { O.called writer.old ≤ 2 ^ 62 + 2 ^ 40 }
     requires few { begun ≤ 2 ^ 40 }
     ensures sent { IsSent (O.written writer.old) (O.written writer.new) begun result
         (flat_map (written_text from.number) (places_of words.now)) }
-    ensures failures { O.failed writer.new ≡ O.failed writer.old + fails_by result }
+    ensures failures { O.failed writer.new ≡ O.failed writer.old + failed_writes result }
     ensures calls { O.called writer.new ≤ O.called writer.old + 100200 }
     ensures few { IfOk result (λ total. total ≤ begun + 100200) }
 {

@@ -2,7 +2,7 @@
 
 ghost use Rattle.std.specs.Prelude.{◌≡◌, ◌+◌, ◌^◌, ◌≤◌, ◌++◌, codes, IfOk, flat_map, length};
 ghost use Rattle.drum_core.specs.Numeral.{digits_of};
-ghost use Rattle.drum_lines.specs.Sent.{IsSent, fails_by};
+ghost use Rattle.drum_lines.specs.Sent.{IsSent, failed_writes};
 ghost use Rattle.drum_graph.specs.GraphOf.{node_of};
 ghost use Rattle.drum_graph.specs.GraphText.{box_text, border_text, content_text, operation_text};
 ghost use Rattle.drum_graph.specs.GraphText.{span_text, style_text};
@@ -24,7 +24,7 @@ fn send_name<O: Output>(
     requires few { sent ≤ 2 ^ 60 }
     ensures sent { IsSent (O.written writer.old) (O.written writer.new) sent result
         (digits_of 4 location.number ++ codes " [label=\"" ++ digits_of 4 location.number) }
-    ensures failures { O.failed writer.new ≡ O.failed writer.old + fails_by result }
+    ensures failures { O.failed writer.new ≡ O.failed writer.old + failed_writes result }
     ensures calls { O.called writer.new ≤ O.called writer.old + 30 }
     ensures few { IfOk result (λ total. total ≤ sent + 30) }
 {
@@ -39,7 +39,7 @@ fn send_operation<O: Output>(writer: &mut O, sent: usize, op: u8) -> Result<usiz
     requires few { sent ≤ 2 ^ 60 }
     ensures sent { IsSent (O.written writer.old) (O.written writer.new) sent result
         (operation_text op) }
-    ensures failures { O.failed writer.new ≡ O.failed writer.old + fails_by result }
+    ensures failures { O.failed writer.new ≡ O.failed writer.old + failed_writes result }
     ensures calls { O.called writer.new ≤ O.called writer.old + 10 }
     ensures few { IfOk result (λ total. total ≤ sent + 10) }
 {
@@ -59,7 +59,7 @@ fn send_operations<O: Output>(
     requires few { length operations.now ≤ 100 }
     ensures sent { IsSent (O.written writer.old) (O.written writer.new) begun result
         (flat_map operation_text operations.now) }
-    ensures failures { O.failed writer.new ≡ O.failed writer.old + fails_by result }
+    ensures failures { O.failed writer.new ≡ O.failed writer.old + failed_writes result }
     ensures calls { O.called writer.new ≤ O.called writer.old + 1000 }
     ensures few { IfOk result (λ total. total ≤ begun + 1000) }
 {
@@ -97,7 +97,7 @@ fn send_span<O: Output>(writer: &mut O, sent: usize, node: &Node) -> Result<usiz
     requires few { sent ≤ 2 ^ 50 }
     ensures sent { IsSent (O.written writer.old) (O.written writer.new) sent result
         (span_text (node_of node.now)) }
-    ensures failures { O.failed writer.new ≡ O.failed writer.old + fails_by result }
+    ensures failures { O.failed writer.new ≡ O.failed writer.old + failed_writes result }
     ensures calls { O.called writer.new ≤ O.called writer.old + 50 }
     ensures few { IfOk result (λ total. total ≤ sent + 50) }
 {
@@ -119,7 +119,7 @@ fn send_content<O: Output>(writer: &mut O, sent: usize, node: &Node) -> Result<u
     requires few { sent ≤ 2 ^ 50 }
     ensures sent { IsSent (O.written writer.old) (O.written writer.new) sent result
         (content_text (node_of node.now)) }
-    ensures failures { O.failed writer.new ≡ O.failed writer.old + fails_by result }
+    ensures failures { O.failed writer.new ≡ O.failed writer.old + failed_writes result }
     ensures calls { O.called writer.new ≤ O.called writer.old + 1000 }
     ensures few { IfOk result (λ total. total ≤ sent + 1000) }
 {
@@ -137,7 +137,7 @@ fn send_style<O: Output>(writer: &mut O, sent: usize, node: &Node) -> Result<usi
     ensures sent { IsSent (O.written writer.old) (O.written writer.new) sent result
         (codes "\"" ++ style_text node.now.is_listed node.now.is_unfit
         ++ border_text node.now.may_stop ++ codes "]\n") }
-    ensures failures { O.failed writer.new ≡ O.failed writer.old + fails_by result }
+    ensures failures { O.failed writer.new ≡ O.failed writer.old + failed_writes result }
     ensures calls { O.called writer.new ≤ O.called writer.old + 80 }
     ensures few { IfOk result (λ total. total ≤ sent + 80) }
 {
@@ -160,7 +160,7 @@ pub(crate) fn send_box<O: Output>(
     requires few { sent ≤ 2 ^ 40 }
     ensures sent { IsSent (O.written writer.old) (O.written writer.new) sent result
         (box_text (node_of node.now)) }
-    ensures failures { O.failed writer.new ≡ O.failed writer.old + fails_by result }
+    ensures failures { O.failed writer.new ≡ O.failed writer.old + failed_writes result }
     ensures calls { O.called writer.new ≤ O.called writer.old + 1110 }
     ensures few { IfOk result (λ total. total ≤ sent + 1110) }
 {

@@ -2,7 +2,7 @@
 
 ghost use Rattle.std.specs.Prelude.{◌≡◌, ◌+◌, ◌^◌, ◌≤◌, ◌++◌, codes, IfOk, flat_map};
 ghost use Rattle.drum_core.specs.Numeral.{digits_of};
-ghost use Rattle.drum_lines.specs.Sent.{IsSent, IsWritten, fails_by};
+ghost use Rattle.drum_lines.specs.Sent.{IsSent, IsWritten, failed_writes};
 ghost use Rattle.drum_graph.specs.GraphOf.{edges_in, loops_in, node_of, nodes_in, start_of};
 ghost use Rattle.drum_graph.specs.GraphText.{graph_text, head_text, node_text};
 
@@ -22,7 +22,7 @@ fn send_head<O: Output>(writer: &mut O, start: Location) -> Result<usize, WriteF
     requires { O.called writer.old ≤ 2 ^ 62 }
     ensures sent { IsSent (O.written writer.old) (O.written writer.new) 0 result
         (head_text start.number) }
-    ensures failures { O.failed writer.new ≡ O.failed writer.old + fails_by result }
+    ensures failures { O.failed writer.new ≡ O.failed writer.old + failed_writes result }
     ensures calls { O.called writer.new ≤ O.called writer.old + 100 }
     ensures few { IfOk result (λ total. total ≤ 100) }
 {
@@ -47,7 +47,7 @@ fn send_node<O: Output>(
     requires few { sent ≤ 2 ^ 32 }
     ensures sent { IsSent (O.written writer.old) (O.written writer.new) sent result
         (node_text marks.now (edges_in loops.now) (node_of node.now)) }
-    ensures failures { O.failed writer.new ≡ O.failed writer.old + fails_by result }
+    ensures failures { O.failed writer.new ≡ O.failed writer.old + failed_writes result }
     ensures calls { O.called writer.new ≤ O.called writer.old + 463000 }
     ensures few { IfOk result (λ total. total ≤ sent + 463000) }
 {
@@ -67,7 +67,7 @@ fn send_nodes<O: Output>(
     requires few { begun ≤ 100 }
     ensures sent { IsSent (O.written writer.old) (O.written writer.new) begun result
         (flat_map (node_text marks.now (loops_in graph.now)) (nodes_in graph.now)) }
-    ensures failures { O.failed writer.new ≡ O.failed writer.old + fails_by result }
+    ensures failures { O.failed writer.new ≡ O.failed writer.old + failed_writes result }
     ensures calls { O.called writer.new ≤ O.called writer.old + 928000000 }
     ensures few { IfOk result (λ total. total ≤ begun + 928000000) }
 {
@@ -94,7 +94,7 @@ pub fn send_graph<O: Output>(
     requires { O.called writer.old ≤ 2 ^ 62 }
     ensures written { IsWritten (O.written writer.old) (O.written writer.new) result
         (graph_text marks.now (loops_in graph.now) (start_of graph.now) (nodes_in graph.now)) }
-    ensures failures { O.failed writer.new ≡ O.failed writer.old + fails_by result }
+    ensures failures { O.failed writer.new ≡ O.failed writer.old + failed_writes result }
 {
     let sent = send_head(writer, graph.start)?;
     let sent = send_nodes(writer, sent, marks, graph)?;

@@ -2,7 +2,7 @@
 
 ghost use Rattle.std.specs.Prelude.{◌≡◌, ◌||◌, ◌&&◌, is_some};
 ghost use Rattle.std.specs.List.{list_all};
-ghost use Rattle.drum_deck.specs.Loads.{loads_in};
+ghost use Rattle.drum_deck.specs.InDeck.{loads_in};
 ghost use Rattle.drum_core.specs.Op.{op_of};
 ghost use Rattle.drum_graph.specs.Graph as said;
 

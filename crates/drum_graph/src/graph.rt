@@ -22,7 +22,7 @@ pub struct Graph {
 
 impl Graph {
     ghost use Rattle.std.specs.Prelude.{◌≡◌, IfOk, IfErr, List, map};
-    ghost use Rattle.drum_deck.specs.Loads.{loads_in, start_in};
+    ghost use Rattle.drum_deck.specs.InDeck.{loads_in, start_in};
     ghost use Rattle.drum_flow.specs.Executed.{each_place, AreAllNodes};
     ghost use Rattle.drum_flow.specs.Flow.{executed_in, nodes_of as reached_in, of_flow};
     ghost use Rattle.drum_flow.specs.Refused.{IsDiscoveryRefusal};

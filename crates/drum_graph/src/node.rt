@@ -7,7 +7,7 @@ use crate::stops::may_stop;
 use crate::written::written_at;
 use drum_core::Location;
 use drum_flow::Flow;
-use drum_flow::executed::Executed;
+use drum_flow::location_set::LocationSet;
 use drum_flow::place::is_listed;
 use std::alloc::{AllocError, Global};
 
@@ -24,17 +24,18 @@ pub(crate) struct Node {
     pub(crate) is_listed: bool,
     pub(crate) is_unfit: bool,
     pub(crate) may_stop: bool,
-    pub(crate) nexts: Executed,
-    pub(crate) written: Executed,
+    pub(crate) nexts: LocationSet,
+    pub(crate) written: LocationSet,
     ghost few: { vec_len operations ≤ 100 },
 }
 
 impl Node {
     ghost use Rattle.std.specs.Prelude.{◌≡◌, IfOk, OnOk, []};
-    ghost use Rattle.drum_deck.specs.Loads.{loads_in};
+    ghost use Rattle.drum_deck.specs.InDeck.{loads_in};
     ghost use Rattle.drum_flow.specs.Executed.{each_place, with_new, AreAllNodes};
     ghost use Rattle.drum_flow.specs.Flow.{executed_in, nodes_of, of_flow};
     ghost use Rattle.drum_flow.specs.Found.{places_of};
+    ghost use Rattle.drum_flow.specs.Taken.{is_among};
     ghost use Rattle.drum_graph.specs.Graph as said;
     ghost use Rattle.drum_graph.specs.GraphOf.{node_of};
     ghost use Rattle.drum_graph.specs.Outline.{join};
@@ -80,14 +81,14 @@ impl Node {
 
     /// Whether it goes on at a location.
     pub(crate) fn goes_on_at(&self, location: Location) -> bool
-        ensures { result ≡ said.is_among (places_of self.now.nexts) location.number }
+        ensures { result ≡ is_among (places_of self.now.nexts) location.number }
     {
         self.nexts.index_of(location).is_some()
     }
 
     /// Whether it writes the word at a location.
     pub(crate) fn writes(&self, location: Location) -> bool
-        ensures { result ≡ said.is_among (places_of self.now.written) location.number }
+        ensures { result ≡ is_among (places_of self.now.written) location.number }
     {
         self.written.index_of(location).is_some()
     }

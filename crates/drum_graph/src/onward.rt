@@ -1,17 +1,18 @@
 //! Where the instructions of a location go on, as the nodes of the flow graph that stand there do.
 
 ghost use Rattle.std.specs.Prelude.{◌≡◌, ◌<◌, length, slice_get, IfOk, Some};
-ghost use Rattle.drum_deck.specs.Loads.{loads_in};
+ghost use Rattle.drum_deck.specs.InDeck.{loads_in};
 ghost use Rattle.drum_flow.specs.Executed.{may_go as may_go_along, AreAllNodes};
 ghost use Rattle.drum_flow.specs.Flow.{nodes_of, of_flow};
 ghost use Rattle.drum_flow.specs.Found.{places_of};
 ghost use Rattle.drum_flow.specs.Hops as graphs;
+ghost use Rattle.drum_flow.specs.Taken as taken;
 ghost use Rattle.drum_graph.specs.Graph as said;
 ghost use Rattle.drum_graph.specs.GraphOf.{AreAt};
 
 use drum_core::Location;
 use drum_flow::Flow;
-use drum_flow::executed::Executed;
+use drum_flow::location_set::LocationSet;
 use std::alloc::{AllocError, Global};
 
 /// The indices of the nodes at a location.
@@ -48,7 +49,7 @@ fn is_taken(flow: &Flow<'_>, from: Location, nodes: &[usize], onto: Location) ->
     requires all { AreAt (nodes_of flow.now) (length (nodes_of flow.now)) from.number nodes.now }
     requires edge { graphs.IsEdge (loads_in flow.now.deck.now) flow.now.notes.now
         from.number onto.number }
-    ensures { result ≡ said.is_taken flow.now.notes.now (nodes_of flow.now) from.number
+    ensures { result ≡ taken.is_taken flow.now.notes.now (nodes_of flow.now) from.number
         onto.number }
 {
     for node in nodes {
@@ -65,15 +66,15 @@ pub(crate) fn nexts_at(
     alloc: Global,
     flow: &Flow<'_>,
     location: Location,
-) -> Result<Executed, AllocError>
+) -> Result<LocationSet, AllocError>
     requires { of_flow AreAllNodes flow.now (nodes_of flow.now) }
     ensures { IfOk result (λ nexts. places_of nexts ≡ said.nexts (loads_in flow.now.deck.now)
         flow.now.notes.now (nodes_of flow.now) location.number) }
 {
-    let mut all = Executed::none(alloc);
+    let mut all = LocationSet::none(alloc);
     all.add_successors(flow.deck(), flow.notes(), location)?;
     let nodes = nodes_at(alloc, flow, location)?;
-    let mut nexts = Executed::none(alloc);
+    let mut nexts = LocationSet::none(alloc);
     for next in all.locations() {
         if !is_taken(flow, location, &nodes, *next) {
             continue;

@@ -1,7 +1,7 @@
 //! The operations that are allowed at a location.
 
 ghost use Rattle.std.specs.Prelude.{◌≡◌, ◌≤◌, [], ◌∷◌, IfOk, OnOk, vec_len};
-ghost use Rattle.drum_deck.specs.Loads.{loads_in};
+ghost use Rattle.drum_deck.specs.InDeck.{loads_in};
 ghost use Rattle.drum_flow.specs.Executed.{with_new};
 ghost use Rattle.drum_graph.specs.Graph as said;
 

@@ -2,7 +2,7 @@
 
 ghost use Rattle.std.specs.Prelude.{◌≡◌};
 ghost use Rattle.std.specs.List.{list_any};
-ghost use Rattle.drum_deck.specs.Loads.{loads_in};
+ghost use Rattle.drum_deck.specs.InDeck.{loads_in};
 ghost use Rattle.drum_machine.specs.WaysLeft.{ways_left};
 ghost use Rattle.drum_times.specs.Allowed.{matching};
 ghost use Rattle.drum_graph.specs.Graph as said;

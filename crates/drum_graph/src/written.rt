@@ -1,25 +1,26 @@
 //! The executed words that the instructions of a location write.
 
 ghost use Rattle.std.specs.Prelude.{◌≡◌, ◌<◌, [], ◌∷◌, IfOk, OnOk, filter, flat_map};
-ghost use Rattle.drum_deck.specs.Loads.{loads_in};
+ghost use Rattle.drum_deck.specs.InDeck.{loads_in};
 ghost use Rattle.drum_times.specs.Allowed.{matching};
 ghost use Rattle.drum_flow.specs.Executed.{with_new};
 ghost use Rattle.drum_flow.specs.Flow.{executed_in};
 ghost use Rattle.drum_flow.specs.Found.{places_of};
+ghost use Rattle.drum_flow.specs.Taken.{is_among};
 ghost use Rattle.drum_graph.specs.Graph as said;
-ghost use Rattle.drum_graph.specs.Graph.{is_among, written_by};
+ghost use Rattle.drum_graph.specs.Graph.{executed_writes};
 
 use drum_core::{Instruction, Location};
 use drum_flow::Flow;
 use drum_flow::alike::same_writes_end;
-use drum_flow::executed::Executed;
+use drum_flow::location_set::LocationSet;
 use drum_flow::patterns::{Patterns, instruction_of};
 use drum_machine::writes;
 use drum_times::Pattern;
 use std::alloc::{AllocError, Global};
 
 /// Adds the drum word of this number, if it is executed, unless it is there.
-fn add_word(written: &mut Executed, flow: &Flow<'_>, number: u16) -> Result<(), AllocError>
+fn add_word(written: &mut LocationSet, flow: &Flow<'_>, number: u16) -> Result<(), AllocError>
     requires { number < 2000 }
     ensures { OnOk result (places_of written.new ≡ with_new (places_of written.old)
         (filter (is_among (executed_in flow.now)) (number ∷ []))) }
@@ -34,13 +35,13 @@ fn add_word(written: &mut Executed, flow: &Flow<'_>, number: u16) -> Result<(), 
 }
 
 /// Adds the executed words that an instruction writes, unless they are there.
-fn add_written_by(
-    written: &mut Executed,
+fn add_executed_writes(
+    written: &mut LocationSet,
     flow: &Flow<'_>,
     instruction: Instruction,
 ) -> Result<(), AllocError>
     ensures { OnOk result (places_of written.new ≡ with_new (places_of written.old)
-        (written_by (executed_in flow.now) instruction)) }
+        (executed_writes (executed_in flow.now) instruction)) }
 {
     let words = writes(instruction);
     for number in words.start..words.end {
@@ -52,17 +53,17 @@ fn add_written_by(
 /// Adds the executed words that the instructions of a pattern write: of those that write the same
 /// words the first one's.
 fn add_written_in(
-    written: &mut Executed,
+    written: &mut LocationSet,
     flow: &Flow<'_>,
     pattern: Pattern,
 ) -> Result<(), AllocError>
     ensures { OnOk result (places_of written.new ≡ with_new (places_of written.old)
-        (flat_map (written_by (executed_in flow.now)) (matching pattern))) }
+        (flat_map (executed_writes (executed_in flow.now)) (matching pattern))) }
 {
     let mut d = pattern.d_from;
     while d <= pattern.d_to {
         let instruction = instruction_of(pattern, d);
-        add_written_by(written, flow, instruction)?;
+        add_executed_writes(written, flow, instruction)?;
         d = same_writes_end(instruction);
     }
     Ok(())
@@ -74,11 +75,11 @@ pub fn written_at(
     alloc: Global,
     flow: &Flow<'_>,
     location: Location,
-) -> Result<Executed, AllocError>
+) -> Result<LocationSet, AllocError>
     ensures { IfOk result (λ written. places_of written ≡ said.written (loads_in flow.now.deck.now)
         flow.now.notes.now (executed_in flow.now) location.number) }
 {
-    let mut written = Executed::none(alloc);
+    let mut written = LocationSet::none(alloc);
     for pattern in Patterns::at(flow.deck(), flow.notes(), location) {
         add_written_in(&mut written, flow, pattern)?;
     }

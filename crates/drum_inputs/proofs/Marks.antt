@@ -7,7 +7,7 @@ use Rattle.std.proofs.lemmas.List.{length-take, length-drop}
 use Rattle.std.specs.Prelude.{Any, Contains, slice_index_or, slice_range}
 use Rattle.drum_core.specs.declared.word.Word.{Word}
 use Rattle.drum_inputs.specs.declared.drum_words.DrumWords.{DrumWords}
-use Rattle.drum_inputs.specs.Holds.{HoldWords}
+use Rattle.drum_inputs.specs.InputsOfLines.{HoldWords}
 use Rattle.drum_inputs.specs.Inputs.{given_word}
 use Rattle.drum_inputs.specs.InputsText.{placed}
 

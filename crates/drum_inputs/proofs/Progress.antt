@@ -11,7 +11,7 @@ use Rattle.drum_inputs.specs.declared.fault.InputFault.{InputFault}
 use Rattle.drum_inputs.specs.declared.fault.InputFault.TheVariants as faults
 use Rattle.drum_inputs.specs.declared.inputs.Inputs.{Inputs}
 use Rattle.drum_inputs.specs.declared.stating.Stating.{Stating}
-use Rattle.drum_inputs.specs.Holds.{HoldsLines}
+use Rattle.drum_inputs.specs.InputsOfLines.{HoldsLines}
 use Rattle.drum_inputs.specs.Inputs.{AreInputsOf}
 use Rattle.drum_inputs.specs.InputsText.{Line, IsLine, Say, IsTooLong, AreInputs, IsFaultOfLine, IsFirstFault}
 use Rattle.drum_inputs.specs.InputsText.{IsRefused}

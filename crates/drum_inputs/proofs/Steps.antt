@@ -11,7 +11,7 @@ use Rattle.drum_inputs.specs.declared.setting.Setting.TheVariants.{Angle, Switch
 use Rattle.drum_inputs.specs.declared.setting.Setting.TheVariants.{Programmed, OnOverflow}
 use Rattle.drum_inputs.specs.declared.settings.Settings.{Settings}
 use Rattle.drum_inputs.specs.declared.stating.Stating.{Stating}
-use Rattle.drum_inputs.specs.Holds.{HoldSettings, HoldWords, HoldsLines}
+use Rattle.drum_inputs.specs.InputsOfLines.{HoldSettings, HoldWords, HoldsLines}
 use Rattle.drum_inputs.specs.Inputs.{read_card}
 use Rattle.drum_inputs.specs.InputsText.{Line, comment, words, card, wait, IsPastDrum, Repeats, angle_in, switches_in}
 use Rattle.drum_inputs.specs.InputsText.{distributor_in, accumulator_in, latch_in, programmed_in, on_overflow_in}

@@ -10,7 +10,7 @@ use Rattle.drum_inputs.specs.declared.setting.Setting.{Setting}
 use Rattle.drum_inputs.specs.declared.setting.Setting.TheVariants.{Angle, Switches, Distributor, Accumulator, Latch}
 use Rattle.drum_inputs.specs.declared.setting.Setting.TheVariants.{Programmed, OnOverflow}
 use Rattle.drum_inputs.specs.declared.settings.Settings.{Settings}
-use Rattle.drum_inputs.specs.Holds.{CanBeStated, HoldSettings}
+use Rattle.drum_inputs.specs.InputsOfLines.{CanBeStated, HoldSettings}
 use Rattle.drum_inputs.specs.InputsText.{Line, IsLine, Repeats, first_said, angle, switches, distributor, accumulator}
 use Rattle.drum_inputs.specs.InputsText.{latch, programmed, on_overflow, angle_in, switches_in, distributor_in}
 use Rattle.drum_inputs.specs.InputsText.{accumulator_in, latch_in, programmed_in, on_overflow_in}

@@ -1,4 +1,4 @@
-pub mod Holds
+pub mod InputsOfLines
 pub mod Inputs
 pub mod InputsText
 pub mod Said

@@ -16,7 +16,7 @@ pub struct DrumWords {
 impl DrumWords {
     ghost use Rattle.std.specs.Prelude.{ℕ, ◌+◌, ◌<◌, ◌≤◌, ◌↔◌, List, [], ◌∷◌, ◌++◌, length, OnOk};
     ghost use Rattle.std.specs.Prelude.{IfOk, IsTrue, Contains, slice_range, true};
-    ghost use Rattle.drum_inputs.specs.Holds.{HoldWords};
+    ghost use Rattle.drum_inputs.specs.InputsOfLines.{HoldWords};
     ghost use Rattle.drum_inputs.specs.InputsText.{placed};
 
     /// No words.

@@ -8,8 +8,8 @@
 //! is what it gives, and `fault` why a text is no inputs. `laws` has laws of the definitions.
 //!
 //! Definitions, in the order to read them: `InputsText` says which texts are inputs and why others
-//! are refused (over the first fault of `drum_core`'s lines), and `Inputs` what inputs state, as
-//! they are held. `Said` and `Holds` are what the code's other types mean by these.
+//! are refused (over the first fault of `drum_deck`'s lines), and `Inputs` what inputs state, as
+//! they are held. `Said` and `InputsOfLines` are what the code's other types mean by these.
 //!
 //! Proofs. `Progress` is on how the lines are read, one by one. `Refusals` shows that a text has
 //! one fault, `Repeated` when a line says again what others say, and `Sounds` what one sound line

@@ -1,5 +1,5 @@
 ghost use Rattle.std.specs.Prelude.{◌≡◌, List, [], ◌∷◌, ◌++◌, OnOk, OnErr, IsSome, IfErr};
-ghost use Rattle.drum_inputs.specs.Holds.{CanBeStated, HoldSettings};
+ghost use Rattle.drum_inputs.specs.InputsOfLines.{CanBeStated, HoldSettings};
 ghost use Rattle.drum_inputs.specs.InputsText.{Line, Repeats};
 ghost use Rattle.drum_inputs.specs.Said.{stated};
 

@@ -1,5 +1,5 @@
 ghost use Rattle.std.specs.Prelude.{◌≢◌, ℕ, ◌+◌, List, [], ◌∷◌, ◌++◌, take, OnOk, IfOk, IfErr};
-ghost use Rattle.drum_inputs.specs.Holds.{HoldsLines};
+ghost use Rattle.drum_inputs.specs.InputsOfLines.{HoldsLines};
 ghost use Rattle.drum_inputs.specs.Inputs.{AreInputsOf};
 ghost use Rattle.drum_inputs.specs.InputsText as text;
 

@@ -42,9 +42,9 @@ reads_failed (Inputs input.Read) = 1
 reads_failed _ = 0
 
 -- how many failed reads the outcome of a reading tells of: none where there is no fault
-abbrev pub failed_by : {A : Type 0} → Result A Fault → ℕ
-failed_by (Ok found) = 0
-failed_by (Err fault) = reads_failed fault
+abbrev pub failed_reads : {A : Type 0} → Result A Fault → ℕ
+failed_reads (Ok found) = 0
+failed_reads (Err fault) = reads_failed fault
 
 abbrev pub status_after : Fault → status.Status
 status_after NoPart = ends.Refused
@@ -58,7 +58,7 @@ status_after (Refused fault) = after_refusal fault
 status_after (Loaded location) = ends.Refused
 
 -- the program is out of memory (which is tested, not stated)
-abbrev pub IsWanting : Fault → Type 0
-IsWanting Memory = Unit {0}
-IsWanting (Refused refusal.Memory) = Unit {0}
-IsWanting _ = ⊥
+abbrev pub IsOutOfMemory : Fault → Type 0
+IsOutOfMemory Memory = Unit {0}
+IsOutOfMemory (Refused refusal.Memory) = Unit {0}
+IsOutOfMemory _ = ⊥

@@ -13,9 +13,9 @@ IsSent before after sent (Err fault) text =
     × Appends before after (take (fault.sent - sent) text)
 
 -- by how much a write raises the failures of its output: by one exactly where it failed
-abbrev pub fails_by : {A : Type 0} → Result A WriteFault → ℕ
-fails_by (Ok done) = 0
-fails_by (Err fault) = 1
+abbrev pub failed_writes : {A : Type 0} → Result A WriteFault → ℕ
+failed_writes (Ok done) = 0
+failed_writes (Err fault) = 1
 
 -- A text was written: all of it; or a write failed, and a prefix of it has gone out, of as many
 -- bytes as the fault says.

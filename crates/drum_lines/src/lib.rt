@@ -6,7 +6,7 @@
 //! program ends, and `failed_write` how much of a text went out. `print` has the parts of a line;
 //! `print/` writes each line. `print/fault_line` hands a fault to the one of its kind:
 //! `print/deck_fault`, `note_fault`, `input_fault`, `part_fault`, and `refusal_line` for what
-//! refuses an analysis (faults 31 to 36). `print/mark_name` has the pieces that end the line of a
+//! refuses an analysis (faults 31 to 37). `print/mark_name` has the pieces that end the line of a
 //! mark with a name. `telling` writes a text to the output that it is for, and tells the status
 //! then, after a write that failed too.
 //!

@@ -4,7 +4,7 @@ ghost use Rattle.std.specs.Prelude.{◌≡◌, ◌+◌, ◌^◌, ◌≤◌, ◌+
 ghost use Rattle.drum_devices.specs.Device.{joined};
 ghost use Rattle.drum_core.specs.Numeral.{digits_of};
 ghost use Rattle.drum_lines.specs.BoundText.{bound_text};
-ghost use Rattle.drum_lines.specs.Sent.{IsSent, IsWritten, fails_by};
+ghost use Rattle.drum_lines.specs.Sent.{IsSent, IsWritten, failed_writes};
 
 mod deck_fault;
 pub mod fault_line;
@@ -25,7 +25,7 @@ pub fn write_bound<O: Output>(output: &mut O, bound: u64) -> Result<(), WriteFau
     requires { O.called output.old ≤ 2 ^ 62 }
     ensures written { IsWritten (O.written output.old) (O.written output.new) result
         (bound_text bound) }
-    ensures failures { O.failed output.new ≡ O.failed output.old + fails_by result }
+    ensures failures { O.failed output.new ≡ O.failed output.old + failed_writes result }
 {
     write_numbered(output, b"bound ", bound)
 }
@@ -34,7 +34,7 @@ pub fn write_bound<O: Output>(output: &mut O, bound: u64) -> Result<(), WriteFau
 pub fn write_text<O: Output>(output: &mut O, text: &[u8]) -> Result<(), WriteFault>
     requires { O.called output.old + length text.now ≤ 2 ^ 63 }
     ensures written { IsWritten (O.written output.old) (O.written output.new) result text.now }
-    ensures failures { O.failed output.new ≡ O.failed output.old + fails_by result }
+    ensures failures { O.failed output.new ≡ O.failed output.old + failed_writes result }
 {
     match write_whole(output, text) {
         Ok(()) => Ok(()),
@@ -47,7 +47,7 @@ fn write_line<O: Output>(output: &mut O, pieces: &[&[u8]]) -> Result<(), WriteFa
     requires { O.called output.old + length (joined pieces.now) ≤ 2 ^ 63 }
     ensures written { IsWritten (O.written output.old) (O.written output.new) result
         (joined pieces.now) }
-    ensures failures { O.failed output.new ≡ O.failed output.old + fails_by result }
+    ensures failures { O.failed output.new ≡ O.failed output.old + failed_writes result }
 {
     match write_pieces(output, pieces) {
         Ok(_) => Ok(()),
@@ -61,7 +61,7 @@ pub fn send<O: Output>(output: &mut O, sent: usize, pieces: &[&[u8]]) -> Result<
     requires few { sent + length (joined pieces.now) ≤ 2 ^ 63 }
     ensures sent { IsSent (O.written output.old) (O.written output.new) sent result
         (joined pieces.now) }
-    ensures failures { O.failed output.new ≡ O.failed output.old + fails_by result }
+    ensures failures { O.failed output.new ≡ O.failed output.old + failed_writes result }
     ensures calls { O.called output.new ≤ O.called output.old + length (joined pieces.now) }
 {
     match write_pieces(output, pieces) {
@@ -79,7 +79,7 @@ pub fn send_bound<O: Output>(output: &mut O, sent: usize, bound: u64) -> Result<
     requires few { sent ≤ 2 ^ 40 }
     ensures sent { IsSent (O.written output.old) (O.written output.new) sent result
         (bound_text bound) }
-    ensures failures { O.failed output.new ≡ O.failed output.old + fails_by result }
+    ensures failures { O.failed output.new ≡ O.failed output.old + failed_writes result }
     ensures calls { O.called output.new ≤ O.called output.old + 120 }
 {
     let mut number = Buffer::new();
@@ -93,7 +93,7 @@ fn write_numbered<O: Output>(output: &mut O, text: &[u8], number: u64) -> Result
     requires short { length text.now ≤ 100 }
     ensures written { IsWritten (O.written output.old) (O.written output.new) result
         (text.now ++ decimal number ++ codes "\n") }
-    ensures failures { O.failed output.new ≡ O.failed output.old + fails_by result }
+    ensures failures { O.failed output.new ≡ O.failed output.old + failed_writes result }
 {
     let mut buffer = Buffer::new();
     let pieces: [&[u8]; 3] = [text, buffer.format(number).as_bytes(), b"\n"];
@@ -110,7 +110,7 @@ fn write_located<O: Output>(
     requires short { length text.now ≤ 100 }
     ensures written { IsWritten (O.written output.old) (O.written output.new) result
         (text.now ++ digits_of 4 location.number ++ codes "\n") }
-    ensures failures { O.failed output.new ≡ O.failed output.old + fails_by result }
+    ensures failures { O.failed output.new ≡ O.failed output.old + failed_writes result }
 {
     let digits = four_digits(location.number());
     let pieces: [&[u8]; 3] = [text, &digits, b"\n"];

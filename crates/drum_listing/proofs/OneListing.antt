@@ -13,10 +13,10 @@ use Rattle.drum_machine.specs.Ways.{Way, early, to, late}
 use Rattle.drum_order.proofs.Lists.{contains_cases, contains_from_get, contains_here, contains_none, contains_there}
 use Rattle.drum_flow.specs.Walk.{IsTimed, IsWalkFrom, Setting, Taken, end_by}
 use Rattle.drum_walks.specs.Visited.{IsWalkOf, Visited, visited}
-use Rattle.drum_listing.specs.Waits.{AreDearestFirst, ComesBefore, IsFirst, is_alike, time_alike}
-use Rattle.drum_listing.proofs.AddingUp.{ends_behind, follow}
-use Rattle.drum_listing.proofs.SameKinds.{alike_equiv}
-use Rattle.drum_listing.proofs.Waiting.{found_after, reached_after}
+use Rattle.drum_hop_lines.specs.Waits.{AreDearestFirst, ComesBefore, IsFirst, is_alike, time_alike}
+use Rattle.drum_hop_lines.proofs.AddingUp.{ends_behind, follow}
+use Rattle.drum_hop_lines.proofs.SameKinds.{alike_equiv}
+use Rattle.drum_hop_lines.proofs.Waiting.{found_after, reached_after}
 
 clash : true ≡ false → ⊥
 clash e = cc

@@ -9,8 +9,8 @@ use Rattle.std.specs.List.Sorted.{IsPermutation}
 use Rattle.drum_bound.specs.declared.worst.Worst.{Worst}
 use Rattle.drum_bound.specs.RowOf.{row_in}
 use Rattle.drum_bound.specs.Table.{Row}
+use Rattle.drum_hop_lines.proofs.KindRows.{not_below}
 use Rattle.drum_listing.specs.TableText.{AreInOrder, ComesBefore}
-use Rattle.drum_listing.proofs.KindRows.{not_below}
 
 -- what the sort sorts by
 abbrev pub sort_key : Worst → ℕ × ℕ

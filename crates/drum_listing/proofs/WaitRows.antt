@@ -10,12 +10,13 @@ use Rattle.drum_core.specs.declared.op.Op.{Op}
 use Rattle.drum_times.specs.declared.entry.Entry.{Entry}
 use Rattle.drum_walks.specs.declared.visit.Visit.{Visit}
 use Rattle.drum_walks.specs.Visited.{Visited, seen_visit}
-use Rattle.drum_listing.specs.declared.waits.kind.Kind.{Kind}
+use Rattle.drum_hop_lines.specs.declared.kind.Kind.{Kind}
+use Rattle.drum_hop_lines.specs.Waits.{for_data, for_instruction, time_of}
+use Rattle.drum_hop_lines.specs.KindsOf.{kind_of, same_kind, sums_of}
+use Rattle.drum_hop_lines.proofs.SameKinds.{same_kind_equiv}
+use Rattle.drum_hop_lines.proofs.Waiting.{data_soon, instruction_soon}
 use Rattle.drum_listing.specs.declared.waits.wait.Wait.{Wait}
-use Rattle.drum_listing.specs.Waits.{for_data, for_instruction, time_of}
-use Rattle.drum_listing.specs.WaitsOf.{kind_of, of_kind, row_of, same_kind, sums_of}
-use Rattle.drum_listing.proofs.SameKinds.{same_kind_equiv}
-use Rattle.drum_listing.proofs.Waiting.{data_soon, instruction_soon}
+use Rattle.drum_listing.specs.WaitsOf.{of_kind, row_of}
 
 same_wait : (a b : Wait) → a.first ≡ b.first → a.sums.visits ≡ b.sums.visits
     → a.sums.time ≡ b.sums.time → a.sums.instruction ≡ b.sums.instruction

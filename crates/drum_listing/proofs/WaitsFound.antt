@@ -11,18 +11,18 @@ use Rattle.std.specs.Prelude.{Contains, option_map, slice_get, sum_by}
 use Rattle.indexmap.specs.IndexMap.{IndexMap, get}
 use Rattle.drum_core.specs.declared.op.Op.{Op}
 use Rattle.drum_times.specs.declared.entry.Entry.{Entry}
-use Rattle.drum_order.proofs.Lists.{contains_at, contains_cases, contains_from_get, contains_here, contains_none, contains_there}
+use Rattle.drum_order.proofs.Lists.{contains_at, contains_cases, contains_from_get, contains_here, contains_map, contains_none, contains_there}
 use Rattle.drum_walks.specs.declared.visit.Visit.{Visit}
 use Rattle.drum_walks.specs.Visited.{AreInTime, Visited, seen_visit}
-use Rattle.drum_bound.proofs.Lists.{contains_map}
+use Rattle.drum_hop_lines.specs.declared.kind.Kind.{Kind}
+use Rattle.drum_hop_lines.specs.declared.sums.Sums.{Sums}
+use Rattle.drum_hop_lines.specs.Waits.{AreDearestFirst, ComesBefore, IsFirst, alike, is_alike, time_alike, time_of}
+use Rattle.drum_hop_lines.specs.KindsOf.{kind_of, same_kind, sums_of, waited_of}
+use Rattle.drum_hop_lines.proofs.KindRows.{entry_of, key_at, one_place, AreDearest}
+use Rattle.drum_hop_lines.proofs.SameKinds.{same_kind_equiv}
 use Rattle.drum_listing.specs.declared.waits.Waits.{Waits}
-use Rattle.drum_listing.specs.declared.waits.kind.Kind.{Kind}
-use Rattle.drum_listing.specs.declared.waits.sums.Sums.{Sums}
 use Rattle.drum_listing.specs.declared.waits.wait.Wait.{Wait}
-use Rattle.drum_listing.specs.Waits.{AreDearestFirst, ComesBefore, IsFirst, alike, is_alike, time_alike, time_of}
-use Rattle.drum_listing.specs.WaitsOf.{AreRows, AreWaits, IsSumOf, first_of, kind_of, of_kind, row_of, same_kind, sums_of, waited_of}
-use Rattle.drum_listing.proofs.KindRows.{entry_of, key_at, one_place, AreDearest}
-use Rattle.drum_listing.proofs.SameKinds.{same_kind_equiv}
+use Rattle.drum_listing.specs.WaitsOf.{AreRows, AreWaits, IsSumOf, first_of, of_kind, row_of}
 use Rattle.drum_listing.proofs.WaitRows.{of_same, part_le}
 
 -- ---- lists

@@ -1,16 +1,5 @@
-pub mod HeldText
-pub mod Moments
-pub mod MomentsText
-pub mod Page
-pub mod Pieces
 pub mod SizeOf
 pub mod SizeText
-pub mod StepOf
 pub mod TableOf
 pub mod TableText
-pub mod Told
-pub mod TraceText
-pub mod Waits
 pub mod WaitsOf
-pub mod WaitsText
-pub mod WalkText

@@ -6,8 +6,8 @@ ghost use Rattle.drum_core.specs.Op.{op_of};
 ghost use Rattle.drum_times.specs.declared.entry.Entry.{Entry};
 ghost use Rattle.drum_flow.specs.Walk.{Setting};
 ghost use Rattle.drum_walks.specs.Visited.{AreLongest, IsLongest, IsWalkOf, Visited};
-ghost use Rattle.drum_listing.specs.Waits.{AreDearestFirst, alike, data_at, for_cards, for_data};
-ghost use Rattle.drum_listing.specs.Waits.{for_instruction, is_alike, next_at, time_alike};
+ghost use Rattle.drum_hop_lines.specs.Waits.{AreDearestFirst, alike, data_at, for_cards, for_data};
+ghost use Rattle.drum_hop_lines.specs.Waits.{for_instruction, is_alike, next_at, time_alike};
 
 /// The times of all kinds of a walk add up to the time of the walk, and what the hops of a kind
 /// wait is part of their time: so the columns of a line add up. So do those of the line of all

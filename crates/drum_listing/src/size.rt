@@ -2,7 +2,7 @@
 
 ghost use Rattle.std.specs.Prelude.{◌≡◌, ◌+◌, ◌*◌, ◌≤◌, ◌++◌, codes, decimal, length, Contains};
 ghost use Rattle.std.specs.Prelude.{IfOk};
-ghost use Rattle.drum_deck.specs.Loads.{loads_in, start_in};
+ghost use Rattle.drum_deck.specs.InDeck.{loads_in, start_in};
 ghost use Rattle.drum_flow.specs.Flow.{deck_of, executed_in, notes_of};
 ghost use Rattle.drum_flow.specs.Hops.{hops};
 ghost use Rattle.drum_listing.specs.SizeText.{hops_among, size_text};

@@ -10,7 +10,7 @@ pub use listing::list_table;
 use std::alloc::{AllocError, Global};
 
 /// The most entries that are held, far more than any analysis has.
-const LIMIT: usize = 1 << 40;
+const MOST_ENTRIES: usize = 1 << 40;
 
 /// The table of worst times, by location and, of one location, by the number of the counts.
 #[derive(Debug, Drop)]
@@ -34,7 +34,7 @@ impl Table {
         ensures { IfOk result (λ table. AreInOrder (rows_of analysis.now) (rows_in table)) }
     {
         let entries = analysis.table();
-        if entries.len() > LIMIT {
+        if entries.len() > MOST_ENTRIES {
             return Err(AllocError);
         }
         let mut rows = entries.to_vec(alloc)?;

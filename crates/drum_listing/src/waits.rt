@@ -4,28 +4,17 @@ ghost use Rattle.std.specs.Prelude.{◌≤◌};
 ghost use Rattle.indexmap.specs.IndexMap.{index_map_len};
 
 mod adding;
-mod kind;
-mod line;
 mod listing;
-mod spent;
-mod sums;
-mod total;
 mod wait;
-mod waited;
 
 use adding::{by_kind, waited};
 use drum_bound::Analysis;
+use drum_hop_lines::{Kind, Waited};
 use drum_times::Times;
 use indexmap::IndexMap;
-pub use kind::Kind;
-pub use line::send_kind;
 pub use listing::list_waits;
-pub use spent::Spent;
 use std::alloc::{AllocError, Global};
-pub use sums::Sums;
-pub use total::send_total;
 use wait::Wait;
-pub use waited::Waited;
 
 /// Where the word times of a walk go: what the hops of each kind take in all, the dearest kind
 /// first, and what all hops wait. Hops are of one kind that begin at one location, with one

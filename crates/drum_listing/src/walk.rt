@@ -4,14 +4,12 @@ ghost use Rattle.std.specs.Prelude.{◌≡◌, ◌+◌, ◌^◌, ◌≤◌, IfOk
 ghost use Rattle.drum_times.specs.Entries.{entry_in};
 ghost use Rattle.drum_walks.specs.Visited.{seen_visit};
 ghost use Rattle.drum_bound.specs.AnalysisOf.{angle_of, bound_of, visits_of};
-ghost use Rattle.drum_lines.specs.Sent.{IsSent, IsWritten, fails_by};
-ghost use Rattle.drum_listing.specs.WalkText.{visit_line, walk_text};
+ghost use Rattle.drum_lines.specs.Sent.{IsSent, IsWritten, failed_writes};
+ghost use Rattle.drum_hop_lines.specs.WalkText.{visit_line, walk_text};
 
-use crate::page::Page;
-use crate::passing::pass_line;
-use crate::visit_line::VisitLine;
 use drum_bound::Analysis;
 use drum_devices::Output;
+use drum_hop_lines::{Page, VisitLine, pass_line};
 use drum_lines::{WriteFault, send, send_bound};
 use drum_times::Times;
 use drum_walks::Visit;
@@ -27,7 +25,7 @@ fn send_visits<O: Output>(
     requires few { length walk.now ≤ 4000000 }
     ensures sent { IsSent (O.written writer.old) (O.written writer.new) 0 result
         (flat_map (λ visit. visit_line (entry_in times.now) angle (seen_visit visit)) walk.now) }
-    ensures failures { O.failed writer.new ≡ O.failed writer.old + fails_by result }
+    ensures failures { O.failed writer.new ≡ O.failed writer.old + failed_writes result }
     ensures calls { O.called writer.new ≤ O.called writer.old + 4000000000 }
     ensures few { IfOk result (λ total. total ≤ 4000000000) }
 {
@@ -61,7 +59,7 @@ pub fn list_walk<O: Output>(
     ensures written { IsWritten (O.written writer.old) (O.written writer.new) result
         (walk_text (entry_in times.now) (angle_of analysis.now) (visits_of analysis.now)
         (bound_of analysis.now)) }
-    ensures failures { O.failed writer.new ≡ O.failed writer.old + fails_by result }
+    ensures failures { O.failed writer.new ≡ O.failed writer.old + failed_writes result }
 {
     let bound = analysis.bound();
     let sent = send_visits(writer, analysis.walk(), times, analysis.angle())?;

@@ -1,6 +1,6 @@
 pub mod Arrangements
 pub mod Backs
-pub mod Behinds
+pub mod TargetLaws
 pub mod Befores
 pub mod Besides
 pub mod Closings

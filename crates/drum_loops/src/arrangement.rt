@@ -1,7 +1,7 @@
 ghost use Rattle.std.specs.Prelude.{◌≡◌, ℕ, ◌<◌, ◌≤◌, ◌≢◌, [], true, false, length, slice_get};
 ghost use Rattle.std.specs.Prelude.{Some, IfOk, IfSome, IfNone, OnOk, Contains, ◌++◌, reverse};
 
-use drum_order::graph::Graph;
+use drum_order::Graph;
 use std::alloc::{AllocError, Global};
 
 /// A depth-first search that puts a graph's nodes into an order.

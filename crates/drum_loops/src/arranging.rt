@@ -3,7 +3,7 @@ ghost use Rattle.drum_order.specs.Graph.{row, size};
 ghost use Rattle.drum_loops.specs.Arranged.{IsArranged};
 
 use crate::arrangement::Arrangement;
-use drum_order::graph::Graph;
+use drum_order::Graph;
 use std::alloc::{AllocError, Global};
 
 /// An order of a graph's nodes in which each edge goes on, or leads to a node from which edges that

@@ -1,7 +1,7 @@
 //! The graph without the edges of some locations' edges, and whether marks on these are enough.
 
 ghost use Rattle.std.specs.Prelude.{◌≡◌, ℕ, ◌<◌, ◌↔◌, length, map, IfOk, IsTrue, IsFalse, Contains};
-ghost use Rattle.drum_deck.specs.Loads.{loads_in};
+ghost use Rattle.drum_deck.specs.InDeck.{loads_in};
 ghost use Rattle.drum_times.specs.EdgeOf.{edge_of};
 ghost use Rattle.drum_order.specs.Graph.{row, size};
 ghost use Rattle.drum_order.specs.Rows.{targets_in};
@@ -13,9 +13,7 @@ ghost use Rattle.drum_loops.specs.Spared.{AreEnough, IsRowBeside, LackSome};
 
 use drum_core::Location;
 use drum_flow::Flow;
-use drum_order::graph::Graph;
-use drum_order::graph::sort::sort;
-use drum_order::graph::sorted::Sorted;
+use drum_order::{Graph, Sorted, sort};
 use drum_times::Edge;
 use std::alloc::{AllocError, Global};
 

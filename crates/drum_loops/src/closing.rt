@@ -7,14 +7,14 @@ ghost use Rattle.drum_loops.specs.Closing.{edges_onto, places_in, AreBack};
 ghost use Rattle.drum_loops.specs.Loops.{AreClosing};
 
 use crate::arranging::arrange;
-use crate::behind::targets_behind;
 use crate::one_way::are_one_way;
 use crate::ranking::ranks_in;
 use crate::sparing::only_needed;
+use crate::targets::targets_behind;
 use drum_acceptance::free::free_graph;
 use drum_core::Location;
 use drum_flow::Flow;
-use drum_order::graph::Graph;
+use drum_order::Graph;
 use drum_times::Edge;
 use std::alloc::{AllocError, Global};
 

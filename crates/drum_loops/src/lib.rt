@@ -3,7 +3,7 @@
 //!
 //! Code, from the bottom up. `arrangement` is a depth-first search that puts a graph's nodes into
 //! an order, and `arranging` runs it over all of them. `ranking` tells where each node stands
-//! there. `behind` tells where the edges that don't go on lead to from a location; marks on these
+//! there. `targets` tells where the edges that don't go on lead to from a location; marks on these
 //! edges of locations are enough. `one_way` tells whether each of them is needed because no edge of
 //! locations both goes on and leads back, as one can from several nodes at a location. Where one
 //! does, `sparing` tries each and leaves out those that aren't needed; `beside` looks whether marks
@@ -19,7 +19,7 @@
 //! these.
 //!
 //! Proofs. `Befores` has what stands before what in an order, `Paths` what leads along it,
-//! `Arrangements` the moves of the search, `Rankings`, `Behinds` and `Backs` the edges that lead
+//! `Arrangements` the moves of the search, `Rankings`, `TargetLaws` and `Backs` the edges that lead
 //! back, `OneWays` those that go on too, and `Closings` puts them together. `Sparings` is on edges
 //! that are left out, and `Besides` on the graph without the others. `Markings` is on notes with
 //! more marks. `LinkRows` is on the graph of all links, `Suches` on one of many with a property,
@@ -28,7 +28,6 @@
 
 mod arrangement;
 mod arranging;
-mod behind;
 mod beside;
 mod closing;
 pub mod laws;
@@ -38,6 +37,7 @@ mod one_way;
 mod ranking;
 mod reached;
 mod sparing;
+mod targets;
 
 pub use closing::closing_edges;
 pub use links::link_graph;

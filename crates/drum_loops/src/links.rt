@@ -1,7 +1,7 @@
 //! The links of the flow graph, as a graph of its nodes' indices.
 
 ghost use Rattle.std.specs.Prelude.{◌≡◌, ◌<◌, IfOk, Some, length, map, slice_get};
-ghost use Rattle.drum_deck.specs.Loads.{loads_in};
+ghost use Rattle.drum_deck.specs.InDeck.{loads_in};
 ghost use Rattle.drum_order.specs.Graph.{row, size};
 ghost use Rattle.drum_order.specs.Rows.{targets_in};
 ghost use Rattle.drum_flow.specs.Flow.{nodes_of};
@@ -10,8 +10,8 @@ ghost use Rattle.drum_loops.specs.Links.{AreLinkRows, IsLinkRow, IsOnwardRow};
 
 use drum_core::Location;
 use drum_flow::Flow;
-use drum_flow::executed::Executed;
-use drum_order::graph::Graph;
+use drum_flow::location_set::LocationSet;
+use drum_order::Graph;
 use std::alloc::{AllocError, Global};
 
 /// The indices of the nodes that links from a node to one of the targets lead to.
@@ -43,7 +43,7 @@ fn link_row(alloc: Global, flow: &Flow<'_>, node: usize) -> Result<Vec<usize>, A
         × IsLinkRow (loads_in flow.now.deck.now) flow.now.notes.now (nodes_of flow.now) from
         row.items) }
 {
-    let mut targets = Executed::none(alloc);
+    let mut targets = LocationSet::none(alloc);
     targets.add_successors(flow.deck(), flow.notes(), flow.location(node))?;
     onward_row(alloc, flow, targets.locations(), node)
 }

@@ -1,7 +1,7 @@
 //! Whether one loop stands inside another one.
 
 ghost use Rattle.std.specs.Prelude.{◌≡◌, ℕ, ◌<◌, ◌↔◌, ◌⊎◌, IsTrue, IfOk, Contains, length};
-ghost use Rattle.drum_deck.specs.Loads.{loads_in, start_in};
+ghost use Rattle.drum_deck.specs.InDeck.{loads_in, start_in};
 ghost use Rattle.drum_times.specs.EdgeOf.{edge_of};
 ghost use Rattle.drum_order.specs.Graph.{row, size};
 ghost use Rattle.drum_flow.specs.Executed.{AreAllNodes};
@@ -15,7 +15,7 @@ ghost use Rattle.drum_loops.specs.Reached.{LeadsToSuch, OneLeadsAbout};
 use crate::reached::Reached;
 use drum_core::Location;
 use drum_flow::Flow;
-use drum_order::graph::Graph;
+use drum_order::Graph;
 use drum_times::Edge;
 use std::alloc::{AllocError, Global};
 

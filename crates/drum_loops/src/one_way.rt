@@ -8,16 +8,16 @@ ghost use Rattle.drum_flow.specs.Found.{places_of};
 ghost use Rattle.drum_loops.specs.Closing.{places_in};
 ghost use Rattle.drum_loops.specs.Spared.{AreOneWay, IsAhead, IsOn};
 
-use crate::behind::targets_behind;
+use crate::targets::targets_behind;
 use drum_core::Location;
 use drum_flow::Flow;
-use drum_flow::executed::Executed;
-use drum_order::graph::Graph;
+use drum_flow::location_set::LocationSet;
+use drum_order::Graph;
 use std::alloc::{AllocError, Global};
 
 /// Whether an edge of a node goes on to one of some locations.
 fn leads_on(
-    targets: &Executed,
+    targets: &LocationSet,
     flow: &Flow<'_>,
     graph: &Graph,
     ranks: &[usize],
@@ -42,7 +42,7 @@ fn leads_on(
 
 /// Whether an edge of a node at a location goes on to one of some locations.
 fn some_leads_on(
-    targets: &Executed,
+    targets: &LocationSet,
     flow: &Flow<'_>,
     graph: &Graph,
     ranks: &[usize],

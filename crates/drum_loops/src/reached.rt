@@ -10,7 +10,7 @@ ghost use Rattle.drum_loops.specs.Reached.{AreMet, LeadsPast, is_elsewhere, node
 
 use drum_core::Location;
 use drum_flow::Flow;
-use drum_order::graph::Graph;
+use drum_order::Graph;
 use std::alloc::{AllocError, Global};
 
 /// Nodes that were reached, by their indices: each once, in the order in which they were.

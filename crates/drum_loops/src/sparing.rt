@@ -1,7 +1,7 @@
 //! Leaving out edges of locations whose marks can be spared.
 
 ghost use Rattle.std.specs.Prelude.{◌≡◌, length, map, IfOk};
-ghost use Rattle.drum_deck.specs.Loads.{loads_in};
+ghost use Rattle.drum_deck.specs.InDeck.{loads_in};
 ghost use Rattle.drum_times.specs.EdgeOf.{edge_of};
 ghost use Rattle.drum_order.specs.Graph.{row, size};
 ghost use Rattle.drum_flow.specs.Executed.{AreAllNodes};
@@ -12,7 +12,7 @@ ghost use Rattle.drum_loops.specs.Spared.{AreEnough, AreWithout};
 
 use crate::beside::are_enough;
 use drum_flow::Flow;
-use drum_order::graph::Graph;
+use drum_order::Graph;
 use drum_times::Edge;
 use std::alloc::{AllocError, Global};
 

@@ -1,7 +1,7 @@
--- Calls of subroutines: a step along a call's edge opens its exit with its way back, and a step from
--- an exit that goes on goes to the way back that is open, and closes it.
-use Rattle.std.specs.Prelude.{◌≡◌, ℕ, ◌==◌, ◌&&◌, Bool, if◌then◌else◌, List, [], ◌∷◌, map, Option, Some}
-use Rattle.std.specs.Prelude.{None}
+-- Calls of subroutines: a step along a call's edge opens its exit with its way back, and a step
+-- from an exit that goes on goes to the way back that is open, and closes it.
+use Rattle.std.specs.Prelude.{◌≡◌, ℕ, ◌==◌, ◌&&◌, Bool, if◌then◌else◌, List, [], ◌∷◌, map, Option}
+use Rattle.std.specs.Prelude.{Some, None}
 use Rattle.drum_times.specs.declared.notes.call.Call.{Call}
 use Rattle.drum_times.specs.EdgeOf.{edge_of}
 use Rattle.drum_times.specs.Edges.{leads}

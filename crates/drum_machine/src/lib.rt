@@ -2,8 +2,8 @@
 //! keeps to the notes; with what an analysis and a monitor take from it. `drum_emulator` is a
 //! machine that does so.
 //!
-//! Code, from the bottom up. A `card` is for the reader, and `why` the reason of a stop.
-//! `shifting` has how many places a shift goes. `chain` is what takes time in a step, one after the other, and
+//! Code, from the bottom up. A `card` is for the reader, and `why` the reason of a stop. `shifting`
+//! has how many places a shift goes. `chain` is what takes time in a step, one after the other, and
 //! `moments` says when, by the parts of that chain. `ways` has how a step of an instruction may
 //! end, and `written` which drum words it writes. `passes` is what the pass of a mark does to each
 //! count. `counts` is how often marks are passed (of as many as `Mark::MOST` says), and that a full
@@ -15,9 +15,9 @@
 //! is found, when it is ready, has its data and ends; and the units of its work), `Step`, `Run`.
 //! Then `Counts` (how often marks are passed), `Since` (what these counts are, over all edges of a
 //! run), `Calls` (which exits calls open, and where these go back) and `Keeps` (when a run keeps to
-//! the notes, and which way of leaving them comes first).
-//! Then `Writes` and `Ways`, which the flow graph is made of, and `Ending`, by which way a step
-//! ended. The others say what the code's types mean by these: `CountsIn`, `OpenIn`, `WaysLeft`.
+//! the notes, and which way of leaving them comes first). Then `Writes` and `Ways`, which the flow
+//! graph is made of, and `Ending`, by which way a step ended. The others say what the code's types
+//! mean by these: `CountsIn`, `OpenIn`, `WaysLeft`.
 //!
 //! Proofs. `Checks` (single steps with their times), `Effects` and `Marks` evaluate the
 //! definitions. These have laws that other crates use: `Alone`, which drum words stay (it stands on

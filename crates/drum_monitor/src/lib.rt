@@ -6,6 +6,10 @@
 //!
 //! Definitions. `Monitor` says what a monitor has seen of a run. When a run keeps to the notes, and
 //! which way of leaving them comes first, is said by `Keeps` of `drum_machine`.
+//!
+//! Proofs. `Watching` is on what a monitor has seen, one step later; `Judging`, on what the answer
+//! to a step says of the notes; `Allowing`, on which instructions lists allow. `drum_replay` uses
+//! the first two.
 #![tactic(auto)]
 
 mod monitor;

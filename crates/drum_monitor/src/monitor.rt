@@ -1,7 +1,7 @@
 ghost use Rattle.std.specs.Prelude.{◌≡◌, ◌≤◌, ◌∷◌, [], ◌++◌, length, List, Some, None, MatchOption};
 ghost use Rattle.std.specs.Prelude.{MatchBool, IsTrue, Contains, ◌⊎◌};
 ghost use Rattle.drum_core.specs.Instruction.{instruction_of};
-ghost use Rattle.drum_deck.specs.Loads.{loads_in};
+ghost use Rattle.drum_deck.specs.InDeck.{loads_in};
 ghost use Rattle.drum_times.specs.Allowed.{is_listed, allowed as allowed_at};
 ghost use Rattle.drum_machine.specs.Keeps.{IsAsDeclared};
 ghost use Rattle.drum_machine.specs.declared.left.Left.TheVariants as Left;

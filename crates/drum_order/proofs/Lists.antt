@@ -1,7 +1,9 @@
 -- Lemmas on lists of numbers: members, lists without repeats, and a member that is written.
-use Rattle.std.proofs.Common.{◌≡◌, ◌≢◌, ℕ, zero, suc, ◌<◌, List, [], ◌∷◌, ◌++◌, length, get_or, set, drop, reverse}
+use Rattle.std.proofs.Common.{◌≡◌, ◌≢◌, ℕ, zero, suc, ◌<◌, List, [], ◌∷◌, ◌++◌, length, get_or, set, drop, map, reverse}
 use Rattle.std.proofs.Common.{replicate, Some, refl, ap, sym, ◌∙◌, subst, inl, inr, ◌⊎◌, arith}
 use Rattle.std.specs.Prelude.{slice_get, Contains}
+use Rattle.std.specs.Option.{option_map}
+use Rattle.std.proofs.lemmas.Option.{slice_get-map}
 use Rattle.std.proofs.lemmas.List.{reverse-append}
 use Rattle.std.proofs.lemmas.List.Elements.{Contains-append_left, Contains-append_right, Contains-append_cases}
 use Rattle.drum_order.specs.Graph.{AreDifferent}
@@ -38,6 +40,12 @@ contains_from_get (x ∷ xs) zero y e =
     let same : x ≡ y = cc in
     (0, omega arith, same)
 contains_from_get (x ∷ xs) (suc k) y e = contains_there x y xs (contains_from_get xs k y e)
+
+-- the image of a member is a member of the images
+pub contains_map : {X Y : Type 0} (f : X → Y) (xs : List X) (x : X) → Contains xs x → Contains (map f xs) (f x)
+contains_map f xs x has =
+    let at = contains_at xs x has in
+    contains_from_get (map f xs) at.0 (f x) (slice_get-map f xs at.0 ∙ ap (option_map f) at.1)
 
 pub contains_reverse : (xs : List ℕ) (y : ℕ) → Contains xs y → Contains (reverse xs) y
 contains_reverse [] y h = absurd (contains_none y h)

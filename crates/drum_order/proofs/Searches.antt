@@ -7,8 +7,8 @@ use Rattle.std.proofs.lemmas.List.{length-set, length-replicate, get_or-replicat
 use Rattle.std.proofs.lemmas.List.Elements.{Contains-append_left, Contains-append_cases, Contains-push}
 use Rattle.std.proofs.lemmas.List.Sums.{sum_by-set}
 use Rattle.std.proofs.lemmas.Option.{slice_get_within, slice_get-get_or, get_or_from_slice_get}
-use Rattle.drum_order.specs.declared.graph.progress.Progress.{Progress}
-use Rattle.drum_order.specs.declared.graph.progress.Progress.TheVariants.{New, Open, Finished}
+use Rattle.drum_order.specs.declared.progress.Progress.{Progress}
+use Rattle.drum_order.specs.declared.progress.Progress.TheVariants.{New, Open, Finished}
 use Rattle.drum_order.specs.Graph.{AreDifferent, GoOn, Leads, LeadRound, IsClosed, IsCycle, IsTopologicalOrder}
 use Rattle.drum_order.specs.Search.{LeadAlong, AreLinked, last_of, IsSearch, steps_left, ForgetsNone}
 use Rattle.drum_order.proofs.Lists.{contains_at, contains_from_get, contains_cases, contains_none, contains_reverse}

@@ -2,8 +2,8 @@
 -- nodes the edges of a node lead to.
 use Rattle.std.specs.Prelude.{ℕ, suc, ◌<◌, ◌==◌, Bool, true, false, List, [], ◌∷◌, length, Contains}
 use Rattle.drum_order.specs.declared.graph.Graph.{Graph}
-use Rattle.drum_order.specs.declared.graph.sorted.Sorted.{Sorted}
-use Rattle.drum_order.specs.declared.graph.sorted.Sorted.TheVariants.{Ordered, Cyclic}
+use Rattle.drum_order.specs.declared.sorted.Sorted.{Sorted}
+use Rattle.drum_order.specs.declared.sorted.Sorted.TheVariants.{Ordered, Cyclic}
 use Rattle.drum_order.specs.Rows.{targets_in}
 
 -- the nodes that the edges of a node lead to

@@ -3,9 +3,9 @@
 -- `row` says which nodes the edges of a node lead to.
 use Rattle.std.specs.Prelude.{◌≡◌, ℕ, ◌-◌, ◌<◌, List, [], ◌∷◌, length, reverse, slice_get}
 use Rattle.std.specs.Prelude.{slice_index, sum_by, Option, Some, Contains}
-use Rattle.drum_order.specs.declared.graph.progress.Progress.{Progress}
-use Rattle.drum_order.specs.declared.graph.progress.Progress.TheVariants.{New, Open, Finished}
-use Rattle.drum_order.specs.declared.graph.search.Search.{Search}
+use Rattle.drum_order.specs.declared.progress.Progress.{Progress}
+use Rattle.drum_order.specs.declared.progress.Progress.TheVariants.{New, Open, Finished}
+use Rattle.drum_order.specs.declared.search.Search.{Search}
 use Rattle.drum_order.specs.Graph.{AreDifferent, GoOn, Leads}
 
 -- edges lead from a node along these

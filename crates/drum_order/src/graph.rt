@@ -3,11 +3,6 @@
 ghost use Rattle.std.specs.Prelude.{◌≡◌, ℕ, ◌<◌, length};
 ghost use Rattle.drum_order.specs.Rows.{AreWithin};
 
-pub mod progress;
-pub mod search;
-pub mod sort;
-pub mod sorted;
-
 /// A graph: its nodes are numbered from 0, and each has a row of the nodes that its edges lead to.
 #[derive(Debug, Drop)]
 pub struct Graph {

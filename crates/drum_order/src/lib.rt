@@ -1,9 +1,9 @@
 //! An order of a graph's nodes in which every edge goes on, or a cycle of it. It knows nothing of
 //! marks and hops.
 //!
-//! Code. `graph` is a graph of numbered nodes. `graph/search` is its depth-first search, one move a
-//! method, which finds the cycle where there is one; `graph/progress` is how far a node is. With
-//! `graph/sort` it is run from every node, and `graph/sorted` is what comes of it.
+//! Code. `graph` is a graph of numbered nodes. `search` is its depth-first search, one move a
+//! method, which finds the cycle where there is one; `progress` is how far a node is. With
+//! `sorting` it is run from every node, and `sorted` is what comes of it.
 //!
 //! Definitions, in the order to read them: `Graph` (orders and cycles); `Rows` and `Search` say
 //! what the code's types mean.
@@ -12,4 +12,12 @@
 //! the search.
 #![tactic(auto)]
 
-pub mod graph;
+mod graph;
+mod progress;
+mod search;
+mod sorted;
+mod sorting;
+
+pub use graph::Graph;
+pub use sorted::Sorted;
+pub use sorting::sort;

@@ -24,7 +24,7 @@ use Rattle.drum_lines.specs.declared.status.Status.{Status}
 use Rattle.drum_lines.specs.declared.status.Status.TheVariants.{Failed}
 use Rattle.drum_lines.specs.declared.verdict.Verdict.{Verdict}
 use Rattle.drum_lines.specs.Output.{Device, GetsAll, GetsResult}
-use Rattle.drum_listing.specs.TraceText.{stride_line, stride_lines}
+use Rattle.drum_hop_lines.specs.TraceText.{stride_line, stride_lines}
 use Rattle.drum_replay.specs.declared.replaying.Begun.{Begun}
 use Rattle.drum_replay.specs.Begun.{IsBegun}
 use Rattle.drum_replay.specs.Coverage.{comes_at_once, coverage_lines, coverage_text}

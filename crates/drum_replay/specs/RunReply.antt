@@ -8,7 +8,7 @@ use Rattle.drum_lines.specs.declared.verdict.Verdict.{Verdict}
 use Rattle.drum_lines.specs.Reply.{Reply, breaks_off, says}
 use Rattle.drum_lines.specs.Status.{status_of}
 use Rattle.drum_lines.specs.VerdictText.{verdict_text}
-use Rattle.drum_listing.specs.TraceText.{stride_lines}
+use Rattle.drum_hop_lines.specs.TraceText.{stride_lines}
 use Rattle.drum_documents.specs.declared.documents.Documents.{Documents}
 use Rattle.drum_documents.specs.Documents.{setting_of}
 use Rattle.drum_documents.specs.Limits.{IsLimit}

@@ -4,7 +4,7 @@ ghost use Rattle.std.specs.Prelude.{◌≡◌, ◌+◌, ◌^◌, ◌≤◌, List
 ghost use Rattle.std.specs.List.{enumerate_from};
 ghost use Rattle.drum_times.specs.Listed.{listed};
 ghost use Rattle.drum_machine.specs.Run.{Stride};
-ghost use Rattle.drum_lines.specs.Sent.{IsSent, IsWritten, fails_by};
+ghost use Rattle.drum_lines.specs.Sent.{IsSent, IsWritten, failed_writes};
 ghost use Rattle.drum_replay.specs.Coverage.{coverage_text, list_line, mark_line, mark_line_at};
 ghost use Rattle.drum_replay.specs.CoverageOf.{HasSeen, list_line_at, passed_at};
 
@@ -25,7 +25,7 @@ fn send_mark<O: Output>(
     requires few { sent ≤ 2 ^ 40 }
     ensures sent { IsSent (O.written writer.old) (O.written writer.new) sent result
         (mark_line mark.now passed) }
-    ensures failures { O.failed writer.new ≡ O.failed writer.old + fails_by result }
+    ensures failures { O.failed writer.new ≡ O.failed writer.old + failed_writes result }
     ensures calls { O.called writer.new ≤ O.called writer.old + 170 }
     ensures short { length (mark_line mark.now passed) ≤ 170 }
 {
@@ -59,7 +59,7 @@ fn send_marks<O: Output>(
     requires marks { length marks.now ≤ 64 }
     ensures sent { IsSent (O.written writer.old) (O.written writer.new) 0 result
         (flat_map (mark_line_at (passed_at coverage.now)) (enumerate_from 0 marks.now)) }
-    ensures failures { O.failed writer.new ≡ O.failed writer.old + fails_by result }
+    ensures failures { O.failed writer.new ≡ O.failed writer.old + failed_writes result }
     ensures calls { O.called writer.new ≤ O.called writer.old + 10880 }
     ensures few { IfOk result (λ total. total ≤ 10880) }
 {
@@ -81,7 +81,7 @@ fn send_list<O: Output>(
     requires few { sent ≤ 2 ^ 40 }
     ensures sent { IsSent (O.written writer.old) (O.written writer.new) sent result
         (list_line (listed list.now) met) }
-    ensures failures { O.failed writer.new ≡ O.failed writer.old + fails_by result }
+    ensures failures { O.failed writer.new ≡ O.failed writer.old + failed_writes result }
     ensures calls { O.called writer.new ≤ O.called writer.old + 120 }
     ensures short { length (list_line (listed list.now) met) ≤ 120 }
 {
@@ -112,7 +112,7 @@ fn send_lists<O: Output>(
     requires sized { length coverage.now.met.items ≡ length lists.now }
     ensures sent { IsSent (O.written writer.old) (O.written writer.new) begun result
         (flat_map (list_line_at coverage.now) (enumerate_from 0 lists.now)) }
-    ensures failures { O.failed writer.new ≡ O.failed writer.old + fails_by result }
+    ensures failures { O.failed writer.new ≡ O.failed writer.old + failed_writes result }
     ensures calls { O.called writer.new ≤ O.called writer.old + 1200000 }
 {
     let mut sent = begun;
@@ -139,7 +139,7 @@ pub fn send_coverage<O: Output>(
     ensures written { (strides : List Stride) → HasSeen notes.now strides coverage.now
         → IsWritten (O.written writer.old) (O.written writer.new) result
         (coverage_text notes.now strides) }
-    ensures failures { O.failed writer.new ≡ O.failed writer.old + fails_by result }
+    ensures failures { O.failed writer.new ≡ O.failed writer.old + failed_writes result }
     ensures calls { O.called writer.new ≤ O.called writer.old + 2 ^ 40 }
 {
     let sent = send_marks(writer, notes.marks(), coverage)?;

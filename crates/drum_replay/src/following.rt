@@ -91,7 +91,7 @@ impl Following {
 
 /// Follows a run until it leaves the notes or stops. It ends, since each step uses time, and no run
 /// that keeps to the notes uses more than the bound.
-pub fn follow(
+pub fn follow_run(
     deck: &Deck,
     times: &Times,
     notes: &Notes,

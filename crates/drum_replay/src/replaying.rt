@@ -8,7 +8,7 @@ ghost use Rattle.drum_replay.specs.Given.{given};
 ghost use Rattle.drum_replay.specs.Replay.{IsReplay, IsReplayFault, IsTraceFault};
 
 use crate::coverage::Coverage;
-use crate::following::{Following, follow};
+use crate::following::{Following, follow_run};
 use drum_bound::bound;
 use drum_deck::Deck;
 use drum_documents::{Documents, limit_of};
@@ -149,7 +149,7 @@ pub fn replay(
     } = begin_replay(alloc, deck, times, notes, inputs)?;
     match verdict {
         Some(verdict) => Ok(verdict),
-        None => Ok(follow(deck, times, notes, following, most)),
+        None => Ok(follow_run(deck, times, notes, following, most)),
     }
 }
 

@@ -5,18 +5,18 @@ ghost use Rattle.std.specs.Prelude.{length};
 ghost use Rattle.drum_times.specs.Entries.{entry_in};
 ghost use Rattle.drum_machine.specs.Run.{Stride};
 ghost use Rattle.drum_flow.specs.SettingOf.{setting};
-ghost use Rattle.drum_lines.specs.Sent.{IsWritten, fails_by};
+ghost use Rattle.drum_flow.specs.Bounded.{IsBounded};
+ghost use Rattle.drum_lines.specs.Sent.{IsWritten, failed_writes};
 ghost use Rattle.drum_lines.specs.Output.{Device, GetsResult, Tells, device};
 ghost use Rattle.drum_lines.specs.Reply.{Reply};
 ghost use Rattle.drum_lines.specs.Status.{status_of};
 ghost use Rattle.drum_lines.specs.VerdictText.{verdict_text};
-ghost use Rattle.drum_listing.specs.TraceText.{stride_lines};
+ghost use Rattle.drum_hop_lines.specs.TraceText.{stride_lines};
+ghost use Rattle.drum_documents.specs.Documents.{setting_of};
 ghost use Rattle.drum_replay.specs.Begun.{IsBegun, IsReady, IsTraceBegun};
 ghost use Rattle.drum_replay.specs.Coverage.{comes_at_once as is_at_once, coverage_lines};
 ghost use Rattle.drum_replay.specs.CoverageOf.{HasSeen};
 ghost use Rattle.drum_replay.specs.RunReply.{SaysTrace};
-ghost use Rattle.drum_flow.specs.Bounded.{IsBounded};
-ghost use Rattle.drum_documents.specs.Documents.{setting_of};
 ghost use Rattle.drum_replay.specs.Following.{AreUnderWay, CanBegin, IsFollowed, IsFollowing};
 ghost use Rattle.drum_replay.specs.Following.{state_of, waits_of};
 ghost use Rattle.drum_replay.specs.Replay.{Given, IsTraced, IsTracedInPart};
@@ -28,8 +28,8 @@ use crate::replaying::{Begun, BegunTrace};
 use drum_deck::Deck;
 use drum_devices::Output;
 use drum_documents::Documents;
+use drum_hop_lines::{Page, pass_step};
 use drum_lines::{Limit, Status, Verdict, WriteFault, send, tell_verdict};
-use drum_listing::{Page, pass_step};
 use drum_machine::Left;
 use drum_times::{Notes, Times};
 
@@ -62,7 +62,7 @@ fn send_steps<O: Output>(
         × IsWritten (O.written out.old) (O.written out.new) result
         (stride_lines (entry_in times.now) 1 strides)
         × OnOk result (HasSeen notes.now strides coverage.new) }
-    ensures failures { O.failed out.new ≡ O.failed out.old + fails_by result }
+    ensures failures { O.failed out.new ≡ O.failed out.old + failed_writes result }
     ensures calls { O.called out.new + 2 ^ 41 ≤ O.called out.old + 2 ^ 60 }
 {
     let mut sent = 0;
@@ -104,7 +104,7 @@ fn send_trace<O: Output>(
         × IsWritten (O.written out.old) (O.written out.new) result
         (stride_lines (entry_in documents.now.times) 1 strides)
         × OnOk result (HasSeen documents.now.notes strides coverage.new) }
-    ensures failures { O.failed out.new ≡ O.failed out.old + fails_by result }
+    ensures failures { O.failed out.new ≡ O.failed out.old + failed_writes result }
     ensures calls { O.called out.new + 2 ^ 41 ≤ O.called out.old + 2 ^ 60 }
     ensures sized { OnOk result
         (length coverage.new.met.items ≡ length documents.now.notes.lists) }
@@ -157,7 +157,7 @@ fn send_needed<O: Output>(
     ensures written { (strides : List Stride) → HasSeen notes.now strides coverage.now
         → IsWritten (O.written out.old) (O.written out.new) result
         (coverage_lines notes.now strides verdict.now) }
-    ensures failures { O.failed out.new ≡ O.failed out.old + fails_by result }
+    ensures failures { O.failed out.new ≡ O.failed out.old + failed_writes result }
     ensures calls { O.called out.new ≤ O.called out.old + 2 ^ 40 }
 {
     if comes_at_once(verdict) {

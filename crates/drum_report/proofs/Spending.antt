@@ -10,7 +10,7 @@ use Rattle.std.specs.List.{Contains}
 use Rattle.std.specs.Prelude.{◌==◌, sum_by}
 use borrow.Author.Tests.{ne_eqb}
 use Rattle.drum_deck.specs.declared.deck.Deck.{Deck}
-use Rattle.drum_deck.specs.Loads.{card_in, cards_in}
+use Rattle.drum_deck.specs.InDeck.{card_in, cards_in}
 use Rattle.drum_deck.proofs.CardLines.{deck_cards_rise, deck_card_among}
 use Rattle.drum_walks.specs.Visited.{Visited, AreInTime}
 use Rattle.drum_report.specs.Report.{is_of_card, is_of_none, time_in, used_after, visits_at}

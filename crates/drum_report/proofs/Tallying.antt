@@ -10,7 +10,7 @@ use Rattle.std.specs.List.{take-map}
 use Rattle.std.specs.Prelude.{◌==◌, slice_get, slice_index}
 use borrow.Author.Tests.{ne_eqb}
 use Rattle.drum_deck.specs.declared.deck.Deck.{Deck}
-use Rattle.drum_deck.specs.Loads.{card_in}
+use Rattle.drum_deck.specs.InDeck.{card_in}
 use Rattle.drum_deck.proofs.Puts.{slice_get-set_same, slice_get-set_other}
 use Rattle.drum_times.specs.declared.notes.mark.Mark.{Mark}
 use Rattle.drum_machine.specs.WaysLeft.{seen_way}

@@ -2,7 +2,7 @@
 
 ghost use Rattle.std.specs.Prelude.{◌≡◌, ◌+◌, sum_by};
 ghost use Rattle.drum_deck.specs.declared.deck.Deck.{Deck};
-ghost use Rattle.drum_deck.specs.Loads.{cards_in};
+ghost use Rattle.drum_deck.specs.InDeck.{cards_in};
 ghost use Rattle.drum_bound.specs.declared.analysis.Analysis.{Analysis};
 ghost use Rattle.drum_bound.specs.AnalysisOf.{bound_of, visits_of};
 ghost use Rattle.drum_report.specs.Report.{is_of_card, is_of_none, time_in, used_after, visits_at};

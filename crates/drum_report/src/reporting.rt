@@ -3,7 +3,7 @@
 ghost use Rattle.std.specs.Prelude.{◌≡◌, ◌+◌, ◌^◌, ◌≤◌};
 ghost use Rattle.drum_bound.specs.AnalysisOf.{visits_of};
 ghost use Rattle.drum_report.specs.Report.{report_text};
-ghost use Rattle.drum_lines.specs.Sent.{IsWritten, fails_by};
+ghost use Rattle.drum_lines.specs.Sent.{IsWritten, failed_writes};
 
 mod sending;
 mod tallies;
@@ -35,7 +35,7 @@ pub fn report<O: Output>(
     requires { O.called writer.old ≤ 2 ^ 62 }
     ensures written { IsWritten (O.written writer.old) (O.written writer.new) result
         (report_text deck.now notes.now (visits_of analysis.now)) }
-    ensures failures { O.failed writer.new ≡ O.failed writer.old + fails_by result }
+    ensures failures { O.failed writer.new ≡ O.failed writer.old + failed_writes result }
     ensures calls { O.called writer.new ≤ O.called writer.old + 487920 }
 {
     let bound = analysis.bound();

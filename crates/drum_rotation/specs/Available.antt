@@ -17,7 +17,8 @@ has_parity Any angle = true
 has_parity Even angle = angle % 2 == 0
 has_parity Odd angle = angle % 2 == 1
 
--- a word of this kind, at the location of this number, can be had at the angle
+-- a word of this kind, at the location of this number, can be had at the angle (the lower half of
+-- the accumulator is location 8002, the upper half 8003)
 abbrev pub is_had : Kind → ℕ → ℕ → Bool
 is_had Drum n angle = is_angle (n % 50) angle
 is_had Switches n angle = true

@@ -28,8 +28,10 @@ impl AtAngle {
 impl Clockwork for AtAngle {
     ghost use Rattle.drum_rotation.specs.Moment.{first};
     ghost use Rattle.drum_rotation.specs.Available.{is_angle};
-    ghost use Rattle.drum_rotation.specs.Recurs.{never_earlier as earlier_law, within_span as span_law};
-    ghost use Rattle.drum_rotation.specs.Recurs.{monotone as monotone_law, periodic as periodic_law};
+    ghost use Rattle.drum_rotation.specs.Recurs.{never_earlier as earlier_law};
+    ghost use Rattle.drum_rotation.specs.Recurs.{within_span as span_law};
+    ghost use Rattle.drum_rotation.specs.Recurs.{monotone as monotone_law};
+    ghost use Rattle.drum_rotation.specs.Recurs.{periodic as periodic_law};
     ghost use Rattle.drum_rotation.specs.Waits.{angle_recurs};
 
     ghost moment = { λ at clock. first (is_angle at.angle) clock };

@@ -23,8 +23,10 @@ impl Clockwork for AtParity {
     ghost use Rattle.drum_rotation.specs.Moment.{first};
     ghost use Rattle.drum_rotation.specs.Available.{has_parity};
     ghost use Rattle.drum_rotation.specs.Span.{parity_span};
-    ghost use Rattle.drum_rotation.specs.Recurs.{never_earlier as earlier_law, within_span as span_law};
-    ghost use Rattle.drum_rotation.specs.Recurs.{monotone as monotone_law, periodic as periodic_law};
+    ghost use Rattle.drum_rotation.specs.Recurs.{never_earlier as earlier_law};
+    ghost use Rattle.drum_rotation.specs.Recurs.{within_span as span_law};
+    ghost use Rattle.drum_rotation.specs.Recurs.{monotone as monotone_law};
+    ghost use Rattle.drum_rotation.specs.Recurs.{periodic as periodic_law};
     ghost use Rattle.drum_rotation.specs.Waits.{parity_recurs};
 
     ghost moment = { λ at clock. first (has_parity at.parity) clock };

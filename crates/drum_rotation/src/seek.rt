@@ -29,8 +29,10 @@ impl Clockwork for Seek {
     ghost use Rattle.drum_rotation.specs.Available.{is_available};
     ghost use Rattle.drum_core.specs.Kind.{kind_of};
     ghost use Rattle.drum_rotation.specs.Span.{kind_span};
-    ghost use Rattle.drum_rotation.specs.Recurs.{never_earlier as earlier_law, within_span as span_law};
-    ghost use Rattle.drum_rotation.specs.Recurs.{monotone as monotone_law, periodic as periodic_law};
+    ghost use Rattle.drum_rotation.specs.Recurs.{never_earlier as earlier_law};
+    ghost use Rattle.drum_rotation.specs.Recurs.{within_span as span_law};
+    ghost use Rattle.drum_rotation.specs.Recurs.{monotone as monotone_law};
+    ghost use Rattle.drum_rotation.specs.Recurs.{periodic as periodic_law};
     ghost use Rattle.drum_rotation.specs.Waits.{available_recurs};
 
     ghost moment = { λ seek clock. first (is_available seek.location.number) clock };

@@ -5,9 +5,9 @@
 //! all marks; `opening` and `openings` are what they ask and make of what is open at the exit of a
 //! call and of all calls. `stretch` is what hops come to, and `coming` tells it of one hop, of one
 //! stretch behind another, and of rounds of one. `order` tells whether pieces are numbered as a
-//! walk comes to their ends, and `told`, by `often`, how long each takes and how often it comes. By
-//! these `weighing` tells the walk that pieces spell out, an `in_rounds`, or that they spell out
-//! none; `setting` has the deck, the timing table and the notes.
+//! walk comes to their ends, and `piece_totals`, by `often`, how long each takes and how often it
+//! comes. By these `weighing` tells the walk that pieces spell out, an `in_rounds`, or that they
+//! spell out none; `setting` has the deck, the timing table and the notes.
 //!
 //! Definitions, in the order to read them, behind `Pieces` of `drum_walks`: `Order` (how pieces are
 //! numbered) and `InRounds` (when a walk in rounds is right). The others say what the code's types
@@ -28,9 +28,9 @@ mod often;
 mod opening;
 mod openings;
 mod order;
+mod piece_totals;
 mod setting;
 mod stretch;
-mod told;
 mod weighing;
 
 pub use in_rounds::InRounds;

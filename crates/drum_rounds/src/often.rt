@@ -1,6 +1,7 @@
 //! How often each piece comes in the whole walk.
 
-ghost use Rattle.std.specs.Prelude.{◌≡◌, ◌+◌, ◌-◌, ◌*◌, ◌<◌, ℕ, IfOk, IfSome, IsTrue, length, sum_by};
+ghost use Rattle.std.specs.Prelude.{◌≡◌, ◌+◌, ◌-◌, ◌*◌, ◌<◌, ℕ, IfOk, IfSome, IsTrue, length};
+ghost use Rattle.std.specs.Prelude.{sum_by};
 ghost use Rattle.std.specs.Prelude.{get_or};
 ghost use Rattle.drum_walks.specs.Pieces.{spelled, PlacedHop};
 ghost use Rattle.drum_rounds.specs.InRounds.{summed};

@@ -1,7 +1,7 @@
 //! What walks are walks of, and whether a hop is one of its location.
 
 ghost use Rattle.std.specs.Prelude.{◌≡◌, Contains, IsTrue};
-ghost use Rattle.drum_deck.specs.Loads.{loads_in};
+ghost use Rattle.drum_deck.specs.InDeck.{loads_in};
 ghost use Rattle.drum_times.specs.Allowed.{allowed};
 ghost use Rattle.drum_machine.specs.Ways.{ways};
 ghost use Rattle.drum_machine.specs.WaysLeft.{seen_way};

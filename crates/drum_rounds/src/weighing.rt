@@ -13,9 +13,9 @@ use crate::changes::{are_within, passes_of};
 use crate::in_rounds::InRounds;
 use crate::openings;
 use crate::order::Order;
+use crate::piece_totals::PieceTotals;
 use crate::setting::Setting;
 use crate::stretch::Stretch;
-use crate::told::Told;
 use drum_core::REVOLUTION;
 use drum_times::Mark;
 use drum_walks::{Piece, Rounds};
@@ -170,7 +170,7 @@ impl Setting<'_> {
         if !self.is_from_start(whole) || !Order::of(alloc, &pieces)?.is_kept() {
             return Ok(None);
         }
-        let Some(told) = Told::of(alloc, &pieces, &stretches)? else {
+        let Some(told) = PieceTotals::of(alloc, &pieces, &stretches)? else {
             return Ok(None);
         };
         Ok(Some(InRounds {

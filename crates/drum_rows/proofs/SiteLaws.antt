@@ -13,7 +13,7 @@ use Rattle.drum_flow.specs.Flow.{AreFound}
 use Rattle.drum_flow.specs.Hops.{hops, IsLink, Node}
 use Rattle.drum_flow.specs.Walk.{Setting}
 use Rattle.drum_flow.proofs.FromAngles.{found_angle}
-use Rattle.drum_flow.proofs.HeldNodes.{one_onward}
+use Rattle.drum_flow.proofs.InNodesLaws.{one_onward}
 use Rattle.drum_flow.proofs.Orders.{has_reached, reached_next, reached_only}
 use Rattle.drum_rows.specs.declared.row.Row.{Row}
 use Rattle.drum_rows.specs.declared.site_row.SiteRow.{SiteRow}

@@ -55,7 +55,8 @@ fn are_plain(marks: &[Mark]) -> bool
 impl Notes {
     /// The notes that say this: where the programmed switch stands, whether load cards are read,
     /// the marks, at most 64, no edge there twice, each inside of an earlier one or of none, the
-    /// lists, no two for one location, and the calls, at most 64, no two with one edge and one exit.
+    /// lists, no two for one location, and the calls, at most 64, no two with one edge and one
+    /// exit.
     pub fn new(
         programmed: Programmed,
         load_cards: bool,

@@ -13,7 +13,7 @@ use Rattle.drum_toml.specs.declared.times.read_entry.Form.{Form}
 use Rattle.drum_toml.specs.AllFaults.{Adds}
 use Rattle.drum_toml.specs.Document.{location_of, location_in, locations_at}
 use Rattle.drum_toml.specs.Document.{Fault, kind, missing, range, unknown_in, missing_in, at_key, array_faults}
-use Rattle.drum_toml.specs.Document.{element_faults, number_faults, is_among, text}
+use Rattle.drum_toml.specs.Document.{element_faults, number_faults, is_one_of, text}
 use Rattle.drum_toml.specs.TimesDocument.{key_of, keys_of, form_of, entry_faults, plain_faults, rest_faults}
 use Rattle.drum_toml.specs.TimesDocument.{operation_faults, operations_faults, times_faults}
 use Rattle.drum_toml.specs.Value.{fault_of, StandsFor}
@@ -187,11 +187,11 @@ wrong_location fields key d wrong has faults = ap location_in (sym has) ∙ no_l
 among_of : {T : Type 0} (choices : List (Bor (List ℕ) × T)) (one : List ℕ) (chosen : T) (k : ℕ)
     → k < length choices
     → ◌≡◌ {A = List ℕ × T} (get_or (map (λ choice. (choice.0.now, choice.1)) choices) k (one, chosen)) (one, chosen)
-    → is_among one (map (λ choice. choice.0.now) choices) ≡ true
+    → is_one_of one (map (λ choice. choice.0.now) choices) ≡ true
 among_of [] one chosen k within is = absurd (omega (arith, within))
 among_of {T} (choice ∷ choices) one chosen zero within is =
     let same : choice.0.now ≡ one = ap (λ (pair : List ℕ × T). pair.0) is in
-    ap (λ (b : Bool). b || is_among one (map (λ other. other.0.now) choices))
+    ap (λ (b : Bool). b || is_one_of one (map (λ other. other.0.now) choices))
     (is_eq-slice_cmp choice.0.now one ∙ (bytes_eq-Decides choice.0.now one).1 same)
 among_of {T} (choice ∷ choices) one chosen (suc k) within is =
     ap (λ (b : Bool). same_key choice.0.now one || b) (among_of choices one chosen k (omega (arith, within)) is)

@@ -9,7 +9,7 @@ use Rattle.drum_times.specs.declared.fault.NoteFault.{NoteFault}
 use Rattle.drum_toml.specs.declared.times.read_entry.Form.{Form}
 use Rattle.drum_toml.specs.declared.times.read_entry.Form.TheVariants.{Plain, Units, Waits}
 use Rattle.drum_toml.specs.Document.{Fault, unknown_in, missing_in, whole, text, number_at, number_faults, text_faults}
-use Rattle.drum_toml.specs.Document.{range, is_among}
+use Rattle.drum_toml.specs.Document.{range, is_one_of}
 use Rattle.drum_toml.specs.Refused.{IsFirst}
 use Rattle.drum_toml.specs.TimesDocument.{HasNumber, keys_of, form_of, longest, text_of, plain_faults, rest_faults}
 use Rattle.drum_toml.specs.TimesDocument.{entry_faults}
@@ -26,7 +26,7 @@ number_is_right at key fields low high n has from upto =
 
 -- nor has a text among some
 pub text_is_right : (at key : List ℕ) (fields : Members) (texts : List (List ℕ)) (one : List ℕ)
-    → get_member key fields ≡ Some (string one) → is_among one texts ≡ true → text texts at key fields ≡ []
+    → get_member key fields ≡ Some (string one) → is_one_of one texts ≡ true → text texts at key fields ≡ []
 text_is_right at key fields texts one has among =
     ap (λ (found : Option Data). elim found [ None ↦ [] | Some value ↦ text_faults (at ++ key) texts value ]) has
     ∙ ap (λ (b : Bool). cond b [] (range (at ++ key) ∷ [])) among

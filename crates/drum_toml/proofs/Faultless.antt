@@ -7,7 +7,7 @@ use Rattle.std.proofs.lemmas.Slice.Eq.{bytes_eq-Decides}
 use Rattle.std.specs.List.{AllByRecursion}
 use Rattle.std.specs.Prelude.{◌&&◌, nat_le, pos, negsuc, is_some}
 use Rattle.drum_core.specs.Location.{is_location}
-use Rattle.drum_toml.specs.Document.{Fault, in_turn, missing, range, missing_in, is_among, whole, location, text}
+use Rattle.drum_toml.specs.Document.{Fault, in_turn, missing, range, missing_in, is_one_of, whole, location, text}
 use Rattle.drum_toml.specs.Document.{number_faults, text_faults}
 use Rattle.drum_toml.specs.TimesDocument.{HasNumber}
 use Rattle.drum_toml.proofs.Sequences.{none_before, none_behind, not_missing}
@@ -16,7 +16,7 @@ use Rattle.toml.specs.Data.{same_key}
 
 -- a key that isn't missing has a value
 pub value_there : (at : List ℕ) (keys : List (List ℕ)) (fields : Members) (key : List ℕ)
-    → missing_in at keys fields ≡ [] → is_among key keys ≡ true → (value : Data) × (get_member key fields ≡ Some value)
+    → missing_in at keys fields ≡ [] → is_one_of key keys ≡ true → (value : Data) × (get_member key fields ≡ Some value)
 value_there at keys fields key none among = go (get_member key fields) refl (not_missing at keys fields key none among)
   where
     go : (found : Option Data) → get_member key fields ≡ found
@@ -43,8 +43,8 @@ number_said path holds (table fields) none = cc
 
 -- or one of the texts
 text_said : (path : List ℕ) (texts : List (List ℕ)) (value : Data) → text_faults path texts value ≡ [] → (one : List ℕ)
-    × (value ≡ string one) × (is_among one texts ≡ true)
-text_said path texts (string s) none = (s, refl, go (is_among s texts) none)
+    × (value ≡ string one) × (is_one_of one texts ≡ true)
+text_said path texts (string s) none = (s, refl, go (is_one_of s texts) none)
   where
     go : (b : Bool) → cond b [] (range path ∷ []) ≡ [] → b ≡ true
     go true e = refl
@@ -88,13 +88,13 @@ location_there at key fields value has none = number_there at key fields is_loca
 
 -- a text among those of some choices is one's
 choice_of : {T : Type 0} (text_of : T → List ℕ) (choices : List T) (one : List ℕ)
-    → is_among one (map text_of choices) ≡ true → (chosen : T) × (one ≡ text_of chosen)
+    → is_one_of one (map text_of choices) ≡ true → (chosen : T) × (one ≡ text_of chosen)
 choice_of text_of [] one among = cc
 choice_of {T} text_of (first ∷ choices) one among = go (same_key (text_of first) one) refl among
     (choice_of text_of choices one)
   where
-    go : (same : Bool) → same_key (text_of first) one ≡ same → (same || is_among one (map text_of choices)) ≡ true
-        → (is_among one (map text_of choices) ≡ true → (chosen : T) × (one ≡ text_of chosen))
+    go : (same : Bool) → same_key (text_of first) one ≡ same → (same || is_one_of one (map text_of choices)) ≡ true
+        → (is_one_of one (map text_of choices) ≡ true → (chosen : T) × (one ≡ text_of chosen))
         → (chosen : T) × (one ≡ text_of chosen)
     go true test h further = (
       first,

@@ -11,7 +11,7 @@ use Rattle.drum_times.specs.Allowed.{Notes}
 use Rattle.drum_times.specs.Marks.{edges_of}
 use Rattle.drum_times.specs.Names.{is_name}
 use Rattle.drum_toml.specs.Calls.{IsCall, call_faults}
-use Rattle.drum_toml.specs.Document.{range, at_key, count_of, is_count, is_among, missing_in}
+use Rattle.drum_toml.specs.Document.{range, at_key, count_of, is_count, is_one_of, missing_in}
 use Rattle.drum_toml.specs.LongNotes.{AreEdges, HasEdges, HasName, IsEdgeValue, IsLongMark, IsLongNotes, StandsIn}
 use Rattle.drum_toml.specs.LongNotes.{edge_checks, edge_value_faults, edges_faults, is_name_of, is_named, listed_edge_faults}
 use Rattle.drum_toml.specs.LongNotes.{lists_edges, long_mark_checks, long_mark_faults, long_mark_keys, long_notes_checks}
@@ -149,7 +149,7 @@ edges_there false at fields is there none =
       has = (from.0.number, onto.0.number, from.1, onto.1, refl);
     }
 
-most_among : (listed : Bool) → is_among (codes "most") (wanted_keys listed) ≡ true
+most_among : (listed : Bool) → is_one_of (codes "most") (wanted_keys listed) ≡ true
 most_among true = refl
 most_among false = refl
 

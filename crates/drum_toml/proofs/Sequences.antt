@@ -9,7 +9,7 @@ use Rattle.std.specs.Prelude.{IsErrAnd}
 use Rattle.drum_times.specs.declared.fault.NoteFault.{NoteFault}
 use Rattle.drum_times.specs.declared.fault.NoteFault.TheVariants.{Toml, Memory, Missing, Unknown, Range, Kind, TwoMarks}
 use Rattle.drum_times.specs.declared.fault.NoteFault.TheVariants.{TwoLists}
-use Rattle.drum_toml.specs.Document.{Fault, unknown, is_among, missing_in, unknown_in}
+use Rattle.drum_toml.specs.Document.{Fault, unknown, is_one_of, missing_in, unknown_in}
 use Rattle.drum_toml.specs.Refused.{Begin, IsFirst}
 use Rattle.toml.specs.Data.{Members, no_members, member, same_key}
 
@@ -54,14 +54,14 @@ none_behind (x ∷ xs) ys none = cc
 
 -- a key of some, none of which is missing, isn't missing
 pub not_missing : (at : List ℕ) (keys : List (List ℕ)) (fields : Members) (key : List ℕ)
-    → missing_in at keys fields ≡ [] → is_among key keys ≡ true → missing_in at (key ∷ []) fields ≡ []
+    → missing_in at keys fields ≡ [] → is_one_of key keys ≡ true → missing_in at (key ∷ []) fields ≡ []
 not_missing at [] fields key none among = cc
 not_missing at (one ∷ keys) fields key none among =
     go (same_key one key) refl among
     (λ h. not_missing at keys fields key (none_behind _ (missing_in at keys fields) none) h)
   where
-    go : (same : Bool) → same_key one key ≡ same → (same || is_among key keys) ≡ true
-        → (is_among key keys ≡ true → missing_in at (key ∷ []) fields ≡ []) → missing_in at (key ∷ []) fields ≡ []
+    go : (same : Bool) → same_key one key ≡ same → (same || is_one_of key keys) ≡ true
+        → (is_one_of key keys ≡ true → missing_in at (key ∷ []) fields ≡ []) → missing_in at (key ∷ []) fields ≡ []
     go true test h further =
         let is : one ≡ key = (bytes_eq-Decides one key).0 (sym (is_eq-slice_cmp one key) ∙ test) in
         subst (λ (k : List ℕ). missing_in at (k ∷ []) fields ≡ []) is
@@ -70,7 +70,7 @@ not_missing at (one ∷ keys) fields key none among =
 
 -- so the first fault of its value is the first
 pub first_there : (at : List ℕ) (keys : List (List ℕ)) (fields : Members) (key : List ℕ) (xs : List Fault)
-    (fault : NoteFault) → missing_in at keys fields ≡ [] → is_among key keys ≡ true
+    (fault : NoteFault) → missing_in at keys fields ≡ [] → is_one_of key keys ≡ true
     → IsFirst (missing_in at (key ∷ []) fields ++ xs) fault → IsFirst xs fault
 first_there at keys fields key xs fault none among first =
     subst (λ (ys : List Fault). IsFirst (ys ++ xs) fault) (not_missing at keys fields key none among) first
@@ -87,7 +87,7 @@ pub known_anywhere : (at at' : List ℕ) (keys : List (List ℕ)) (fields : Memb
     → unknown_in at' keys fields ≡ []
 known_anywhere at at' keys no_members known = refl
 known_anywhere at at' keys (member key value fields) known =
-    go (is_among key keys) known (λ rest. known_anywhere at at' keys fields rest)
+    go (is_one_of key keys) known (λ rest. known_anywhere at at' keys fields rest)
   where
     go : (among : Bool) → cond among [] (unknown (at ++ key) ∷ []) ++ unknown_in at keys fields ≡ []
         → (unknown_in at keys fields ≡ [] → unknown_in at' keys fields ≡ [])

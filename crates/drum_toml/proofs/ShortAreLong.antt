@@ -11,7 +11,7 @@ use Rattle.drum_times.specs.declared.notes.mark.Mark.{Mark}
 use Rattle.drum_times.specs.Allowed.{Notes}
 use Rattle.drum_times.specs.Marks.{edges_of}
 use Rattle.drum_toml.specs.Calls.{IsCall}
-use Rattle.drum_toml.specs.Document.{unknown, is_among, unknown_in}
+use Rattle.drum_toml.specs.Document.{unknown, is_one_of, unknown_in}
 use Rattle.drum_toml.specs.LongNotes.{HasEdges, HasName, IsLongMark, IsLongNotes, StandsIn, lists_edges, long_mark_keys}
 use Rattle.drum_toml.specs.LongNotes.{long_note_keys, names_in}
 use Rattle.drum_toml.specs.NotesDocument.{AreFound, AreTables, HasInside, IsMark, IsNotes, mark_keys, note_keys}
@@ -26,13 +26,13 @@ one_more false false false true e among = refl
 one_more false false false false e among = cc
 
 -- where the keys of a table are among these, they are among others that have these
-known_too : (keys others : List (List ℕ)) → ((key : List ℕ) → is_among key keys ≡ true → is_among key others ≡ true)
+known_too : (keys others : List (List ℕ)) → ((key : List ℕ) → is_one_of key keys ≡ true → is_one_of key others ≡ true)
     → (fields : Members) → unknown_in [] keys fields ≡ [] → unknown_in [] others fields ≡ []
 known_too keys others more no_members known = refl
 known_too keys others more (member key value fields) known =
-    go (is_among key keys) refl known (λ rest. known_too keys others more fields rest)
+    go (is_one_of key keys) refl known (λ rest. known_too keys others more fields rest)
   where
-    go : (among : Bool) → is_among key keys ≡ among
+    go : (among : Bool) → is_one_of key keys ≡ among
         → cond among [] (unknown key ∷ []) ++ unknown_in [] keys fields ≡ []
         → (unknown_in [] keys fields ≡ [] → unknown_in [] others fields ≡ [])
         → unknown_in [] others (member key value fields) ≡ []
@@ -41,30 +41,30 @@ known_too keys others more (member key value fields) known =
     go false is h further = cc
 
 -- those of a mark with one edge, and of notes, are among those of long notes
-mark_keys_too : (key : List ℕ) → is_among key mark_keys ≡ true → is_among key (long_mark_keys false) ≡ true
+mark_keys_too : (key : List ℕ) → is_one_of key mark_keys ≡ true → is_one_of key (long_mark_keys false) ≡ true
 mark_keys_too key =
     one_more (same_key (codes "from") key) (same_key (codes "to") key) (same_key (codes "most") key)
     (same_key (codes "inside") key) (same_key (codes "name") key)
 
-note_keys_too : (key : List ℕ) → is_among key note_keys ≡ true → is_among key long_note_keys ≡ true
+note_keys_too : (key : List ℕ) → is_one_of key note_keys ≡ true → is_one_of key long_note_keys ≡ true
 note_keys_too key =
     one_more (same_key (codes "programmed") key) (same_key (codes "load_cards") key) (same_key (codes "mark") key)
     (same_key (codes "list") key) (same_key (codes "call") key)
 
 -- a key that isn't known isn't there
-not_there : (keys : List (List ℕ)) (key : List ℕ) (fields : Members) → is_among key keys ≡ false
+not_there : (keys : List (List ℕ)) (key : List ℕ) (fields : Members) → is_one_of key keys ≡ false
     → unknown_in [] keys fields ≡ [] → get_member key fields ≡ None
 not_there keys key no_members other known = refl
 not_there keys key (member one value fields) other known =
     go (slice_cmp nat_cmp key one) refl
-    (not_there keys key fields other (none_behind (cond (is_among one keys) [] (unknown one ∷ []))
+    (not_there keys key fields other (none_behind (cond (is_one_of one keys) [] (unknown one ∷ []))
     (unknown_in [] keys fields) known))
   where
     here : key ≡ one → ⊥
     here is =
         let unknown_one : cond false [] (unknown one ∷ []) ++ unknown_in [] keys fields ≡ [] =
         ap (λ (b : Bool). cond b [] (unknown one ∷ []) ++ unknown_in [] keys fields)
-        (sym (ap (λ (k : List ℕ). is_among k keys) (sym is) ∙ other)) ∙ known in
+        (sym (ap (λ (k : List ℕ). is_one_of k keys) (sym is) ∙ other)) ∙ known in
         cc
 
     go : (order : Ordering) → slice_cmp nat_cmp key one ≡ order → get_member key fields ≡ None

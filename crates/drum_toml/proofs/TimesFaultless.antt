@@ -10,7 +10,7 @@ use Rattle.drum_core.proofs.OpLaws.{place_of}
 use Rattle.drum_times.specs.declared.entry.Entry.{Entry}
 use Rattle.drum_toml.specs.declared.times.read_entry.Form.{Form}
 use Rattle.drum_toml.specs.declared.times.read_entry.Form.TheVariants.{Plain, Units, Waits}
-use Rattle.drum_toml.specs.Document.{Fault, missing, kind, unknown_in, missing_in, is_among, whole, text, number_at}
+use Rattle.drum_toml.specs.Document.{Fault, missing, kind, unknown_in, missing_in, is_one_of, whole, text, number_at}
 use Rattle.drum_toml.specs.Document.{number_in}
 use Rattle.drum_toml.specs.TimesDocument.{HasNumber, HasRest, IsPlain, IsEntry, SaysOperation, IsTimes, keys_of}
 use Rattle.drum_toml.specs.TimesDocument.{form_of, key_of, longest, text_of, plain_faults, rest_faults, entry_faults}
@@ -33,8 +33,8 @@ record PlainOf (fields : Members) : Type 0 where
   high_after : after ≤ longest
 
 plain_of : (at : List ℕ) (fields : Members) (keys : List (List ℕ)) → missing_in at keys fields ≡ []
-    → is_among (codes "before") keys ≡ true → is_among (codes "after") keys ≡ true
-    → is_among (codes "parity") keys ≡ true → plain_faults at fields ≡ [] → PlainOf fields
+    → is_one_of (codes "before") keys ≡ true → is_one_of (codes "after") keys ≡ true
+    → is_one_of (codes "parity") keys ≡ true → plain_faults at fields ≡ [] → PlainOf fields
 plain_of at fields keys there first second third none =
     let numbers : List Fault = whole 1 longest at (codes "before") fields
     ++ whole 0 longest at (codes "after") fields in

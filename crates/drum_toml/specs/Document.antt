@@ -23,15 +23,15 @@ in_turn [] = []
 in_turn (faults ∷ checks) = faults ++ in_turn checks
 
 -- the key is among these
-abbrev pub is_among : List ℕ → List (List ℕ) → Bool
-is_among key keys = list_any (λ one. same_key one key) keys
+abbrev pub is_one_of : List ℕ → List (List ℕ) → Bool
+is_one_of key keys = list_any (λ one. same_key one key) keys
 
 -- A fault for each key of the table, in byte order, that isn't among these. `at` is the path of the
 -- table: nothing, or it ends in a dot. (A table's fields are in byte order of their keys.)
 abbrev pub unknown_in : List ℕ → List (List ℕ) → Members → List Fault
 unknown_in at keys no_members = []
 unknown_in at keys (member key value fields) =
-    (if is_among key keys then [] else unknown (at ++ key) ∷ []) ++ unknown_in at keys fields
+    (if is_one_of key keys then [] else unknown (at ++ key) ∷ []) ++ unknown_in at keys fields
 
 -- a fault for each of these keys that the table lacks
 abbrev pub missing_in : List ℕ → List (List ℕ) → Members → List Fault
@@ -46,7 +46,7 @@ number_faults path holds _ = kind path ∷ []
 
 -- the fault of a value that is to be one of these texts
 abbrev pub text_faults : List ℕ → List (List ℕ) → Data → List Fault
-text_faults path texts (string text) = if is_among text texts then [] else range path ∷ []
+text_faults path texts (string text) = if is_one_of text texts then [] else range path ∷ []
 text_faults path texts _ = kind path ∷ []
 
 -- what a check says of the value at a key, if there is one

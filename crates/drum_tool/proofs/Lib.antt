@@ -2,5 +2,5 @@ mod Doing
 mod Looking
 mod OfNoFile
 mod Replies
-mod ToldOf
+mod BoundsOfFiles
 mod Worded

@@ -10,8 +10,8 @@ use Rattle.drum_command.specs.declared.command.Question.TheVariants.{Bound, Repo
 use Rattle.drum_lines.specs.declared.fault.Fault.{Fault}
 use Rattle.drum_lines.specs.declared.fault.Fault.TheVariants as faults
 use Rattle.drum_lines.specs.declared.limit.Limit.{Limit}
-use Rattle.drum_lines.specs.FaultStatus.{failed_by}
-use Rattle.drum_lines.specs.FaultStatus.{IsWanting}
+use Rattle.drum_lines.specs.FaultStatus.{failed_reads}
+use Rattle.drum_lines.specs.FaultStatus.{IsOutOfMemory}
 use Rattle.drum_documents.specs.declared.documents.Documents.{Documents}
 use Rattle.drum_documents.specs.Asked.{part_of}
 use Rattle.drum_documents.specs.Limits.{IsLimit, IsLimitRefusal, IsRefusedFor}
@@ -31,19 +31,19 @@ refused_of_none Is (faults.Notes fault) is = absurd is
 refused_of_none Is (faults.Inputs fault) is = absurd is
 refused_of_none Is (faults.Loaded location) is = absurd is
 
-wanting_of_none : (fault : Fault) → IsWanting fault → IsOfNoFile fault
-wanting_of_none (faults.Refused refusal) is = record { part = refl; reads = refl }
-wanting_of_none faults.NoPart is = absurd is
-wanting_of_none (faults.Part part what) is = absurd is
-wanting_of_none faults.Memory is = record { part = refl; reads = refl }
-wanting_of_none (faults.Deck fault) is = absurd is
-wanting_of_none (faults.Times fault) is = absurd is
-wanting_of_none (faults.Notes fault) is = absurd is
-wanting_of_none (faults.Inputs fault) is = absurd is
-wanting_of_none (faults.Loaded location) is = absurd is
+memory_of_none : (fault : Fault) → IsOutOfMemory fault → IsOfNoFile fault
+memory_of_none (faults.Refused refusal) is = record { part = refl; reads = refl }
+memory_of_none faults.NoPart is = absurd is
+memory_of_none (faults.Part part what) is = absurd is
+memory_of_none faults.Memory is = record { part = refl; reads = refl }
+memory_of_none (faults.Deck fault) is = absurd is
+memory_of_none (faults.Times fault) is = absurd is
+memory_of_none (faults.Notes fault) is = absurd is
+memory_of_none (faults.Inputs fault) is = absurd is
+memory_of_none (faults.Loaded location) is = absurd is
 
 pub check_of_none : (texts : Texts) (fault : Fault) → RefusesCheck texts fault → IsOfNoFile fault
-check_of_none texts fault (inl is) = wanting_of_none fault is
+check_of_none texts fault (inl is) = memory_of_none fault is
 check_of_none texts fault (inr is) = refused_of_none _ fault is.2
 
 run_of_none : (g : Setting) (given : Given) (Refuses : Refusal → Type 0) (IsLimited : Type 0) (fault : Fault)
@@ -82,7 +82,7 @@ question_of_none Draw documents fault is = refused_of_none _ fault is
 question_of_none Ceiling documents fault is = refused_of_none _ fault is
 
 -- so a result with such a fault says of no read that it failed
-pub unread : {A : Type 0} (result : Result A Fault) → IfErr result IsOfNoFile → failed_by result ≡ 0
+pub unread : {A : Type 0} (result : Result A Fault) → IfErr result IsOfNoFile → failed_reads result ≡ 0
 unread (Ok found) of = refl
 unread (Err fault) of = of.reads
 

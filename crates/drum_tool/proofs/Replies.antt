@@ -22,7 +22,7 @@ use Rattle.drum_lines.specs.declared.part.PartFault.TheVariants as what
 use Rattle.drum_lines.specs.FaultStatus.{after_deck, after_input, after_note, after_refusal, reads_failed}
 use Rattle.drum_lines.specs.FaultStatus.{status_after}
 use Rattle.drum_documents.specs.Asked.{files_sought}
-use Rattle.drum_documents.specs.Files.{AreTold, FilesTold, Held}
+use Rattle.drum_documents.specs.Files.{AreTold, FilesTold, Contents}
 use Rattle.drum_documents.specs.Joined.{IsPastLimit}
 use Rattle.drum_tool.specs.Commands.{AnswersCommand}
 use Rattle.drum_lines.specs.Reply.{Reply, TellsOfReads}
@@ -153,5 +153,5 @@ refused_of_no_read Memory = fault_of_reads faults.Memory
 abbrev pub Replied : FilesTold → Command → Reply → ℕ → Type 0
 Replied files command reply failures =
     TellsOfReads failures reply
-    × ((held : Held) → AreTold files held (files_sought command)
+    × ((held : Contents) → AreTold files held (files_sought command)
     → AnswersCommand held command failures reply)

@@ -6,7 +6,7 @@ use Rattle.clap.specs.Words.{Text}
 use Rattle.drum_command.specs.declared.command.Command.{Command}
 use Rattle.drum_command.specs.declared.refused.Refused.{Refused}
 use Rattle.drum_documents.specs.Asked.{Asked, AsksFor, files_sought}
-use Rattle.drum_documents.specs.Files.{AreTold, FilesTold, Held}
+use Rattle.drum_documents.specs.Files.{AreTold, FilesTold, Contents}
 use Rattle.drum_lines.specs.Reply.{Reply}
 use Rattle.drum_tool.specs.Words.{LooksAsTold}
 use Rattle.drum_tool.specs.Commands.{AnswersCommand, AnswersJoined}
@@ -27,7 +27,7 @@ module _ (input : Option (List ℕ)) (files : FilesTold) (failures : ℕ) (reply
 
   pub with_command : (words : List (Bor Text)) → false ≡ (length words == 0) → (command : Command)
       → AreOf (texts words) command
-      → ((held : Held) → AreTold files held (files_sought command)
+      → ((held : Contents) → AreTold files held (files_sought command)
       → AnswersCommand held command failures reply)
       → Answers (texts words) input files failures reply
   with_command [] some command said is = absurd (let bad : false ≡ true = some in cc)

@@ -16,7 +16,7 @@ use Rattle.drum_documents.specs.declared.documents.Documents.{Documents}
 use Rattle.drum_documents.specs.Asked.{name_in}
 use Rattle.drum_documents.specs.Documents.{Texts, setting_of}
 use Rattle.drum_documents.specs.Files.{AreHeld, AreHeldWithInputs, AreNotHeld, AreNotHeldWithInputs}
-use Rattle.drum_documents.specs.Files.{Held}
+use Rattle.drum_documents.specs.Files.{Contents}
 use Rattle.drum_documents.specs.Joined.{Gives, GivesNone}
 use Rattle.drum_documents.specs.TextsHeld.{AreNoneHeld, AreTextsHeld, IsInputsText}
 use Rattle.drum_replay.specs.Given.{given}
@@ -50,13 +50,13 @@ read_for Size = Short
 read_for _ = Long
 
 -- the reply to a question about three files
-abbrev pub AnswersQuestion : Held → Question → ℕ → Reply → Type 0
+abbrev pub AnswersQuestion : Contents → Question → ℕ → Reply → Type 0
 AnswersQuestion held question =
     Replies (AreHeld (read_for question) held) (AreNotHeld (read_for question) held)
     (Says question) (Refuses question)
 
 -- to a check of texts in files, and in one of inputs, if it is named
-abbrev pub AnswersCheck : Held → Files → Option (List ℕ) → ℕ → Reply → Type 0
+abbrev pub AnswersCheck : Contents → Files → Option (List ℕ) → ℕ → Reply → Type 0
 AnswersCheck held files name =
     Replies {A = Texts × Option printed.Named}
     (λ read. AreTextsHeld held read.0 × IsInputsText held name read.1) (AreNoneHeld held name)
@@ -64,7 +64,7 @@ AnswersCheck held files name =
 
 -- To a command that lets the deck run: of the documents, where such notes are read, and the inputs,
 -- what it says of the run that the inputs fix.
-abbrev pub AnswersRun : NotesRead → Held → (Documents → Given → Reply → Type 0)
+abbrev pub AnswersRun : NotesRead → Contents → (Documents → Given → Reply → Type 0)
     → (Documents → Given → Fault → Type 0) → ℕ → Reply → Type 0
 AnswersRun notes held Says Refuses =
     Replies {A = Documents × Inputs} (AreHeldWithInputs notes held)
@@ -72,7 +72,7 @@ AnswersRun notes held Says Refuses =
     (λ read. Says read.0 (given read.1)) (λ read. Refuses read.0 (given read.1))
 
 -- the reply to a command, where the files of its parts hold this and `failures` reads failed
-abbrev pub AnswersCommand : Held → Command → ℕ → Reply → Type 0
+abbrev pub AnswersCommand : Contents → Command → ℕ → Reply → Type 0
 AnswersCommand held (Answer question files) = AnswersQuestion held question
 AnswersCommand held (Check files inputs) = AnswersCheck held files (name_in inputs)
 AnswersCommand held (Replay files inputs) =

@@ -5,7 +5,7 @@ use Rattle.drum_lines.specs.declared.fault.Fault.{Fault}
 use Rattle.drum_lines.specs.declared.status.Status.{Status}
 use Rattle.drum_lines.specs.FaultStatus.{reads_failed}
 use Rattle.drum_documents.specs.Asked.{files_sought, part_of}
-use Rattle.drum_documents.specs.Files.{AreTold, FilesTold, Held}
+use Rattle.drum_documents.specs.Files.{AreTold, FilesTold, Contents}
 use Rattle.drum_lines.specs.Does.{Does}
 use Rattle.drum_lines.specs.Output.{Device}
 use Rattle.drum_lines.specs.Reply.{Reply, fault_reply}
@@ -14,7 +14,7 @@ use Rattle.drum_tool.specs.Commands.{AnswersCommand}
 -- the reply to a command, by what its files hold, as far as that is known
 abbrev pub RepliesTo : Command → FilesTold → ℕ → Reply → Type 0
 RepliesTo command files failures reply =
-    (held : Held) → AreTold files held (files_sought command)
+    (held : Contents) → AreTold files held (files_sought command)
     → AnswersCommand held command failures reply
 
 -- what is done for a command

@@ -1,4 +1,4 @@
 pub mod Commands
 pub mod DoesCommand
-pub mod Told
+pub mod BoundOfFiles
 pub mod Words

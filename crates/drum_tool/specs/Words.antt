@@ -14,7 +14,7 @@ use Rattle.drum_lines.specs.declared.part.PartFault.TheVariants as what
 use Rattle.drum_lines.specs.declared.status.Status.TheVariants as status
 use Rattle.drum_lines.specs.Reply.{IsLineOfFault, Reply, says, complains, fault_reply}
 use Rattle.drum_documents.specs.Asked.{Asked, AsksFor, Looks, NamedFile, files_sought}
-use Rattle.drum_documents.specs.Files.{AreTold, FilesTold, Held}
+use Rattle.drum_documents.specs.Files.{AreTold, FilesTold, Contents}
 use Rattle.drum_tool.specs.Commands.{AnswersCommand, AnswersJoined}
 
 -- the reply to words that name no command: help, or what is wrong with them
@@ -43,7 +43,7 @@ Answers [] input files failures reply =
     (bytes : List ℕ) → input ≡ Some bytes → AnswersJoined bytes failures reply
 Answers (word ∷ words) input files failures reply =
     ((command : Command) × AreOf (word ∷ words) command
-    × ((held : Held) → AreTold files held (files_sought command)
+    × ((held : Contents) → AreTold files held (files_sought command)
     → AnswersCommand held command failures reply))
     ⊎ ((refused : Refused) × AreRefused (word ∷ words) refused
     × (failures ≡ 0) × (reply ≡ refused_reply refused))

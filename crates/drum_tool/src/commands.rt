@@ -2,10 +2,10 @@
 
 ghost use Rattle.std.specs.Prelude.{◌≡◌, ◌+◌, ◌^◌, ◌≤◌, ℕ, IfErr};
 ghost use Rattle.drum_command.specs.declared.command.Command.TheVariants as commands;
-ghost use Rattle.drum_lines.specs.FaultStatus.{failed_by};
+ghost use Rattle.drum_lines.specs.FaultStatus.{failed_reads};
 ghost use Rattle.drum_documents.specs.Asked.{AsksFor, Looks, all_named_in, fault_in, files_sought};
 ghost use Rattle.drum_documents.specs.Asked.{name_in, named_in, named_with};
-ghost use Rattle.drum_documents.specs.Files.{AreTold, Held};
+ghost use Rattle.drum_documents.specs.Files.{AreTold, Contents};
 ghost use Rattle.drum_lines.specs.Output.{Device, Tells, device};
 ghost use Rattle.drum_lines.specs.Reply.{Reply, TellsOfReads};
 ghost use Rattle.drum_tool.specs.Commands as said;
@@ -13,7 +13,7 @@ ghost use Rattle.drum_tool.specs.Commands.{AnswersCommand};
 ghost use Rattle.drum_tool.specs.DoesCommand.{DoesCommand};
 ghost use Rattle.drum_tool.specs.Words.{LooksAsTold};
 
-use drum_answers::{Checked, answer, check, named_inputs, tell_findings};
+use drum_answers::{Checked, answer_question, check, named_inputs, tell_findings};
 use drum_command::{Command, Files, Question};
 use drum_devices::Output;
 use drum_documents::{Source, documents_in, documents_with_inputs, texts_with_inputs};
@@ -48,12 +48,12 @@ fn answer_of_files<S: Source, O: Output>(
         (device (O.written out.old) (O.failed out.old))
         (device (O.written out.new) (O.failed out.new)) err err result }
     ensures spared { IfErr result (λ _. out.new ≡ out.old) }
-    ensures counted { S.failed source.new ≡ S.failed source.old + failed_by result }
+    ensures counted { S.failed source.new ≡ S.failed source.old + failed_reads result }
     ensures asked { AsksFor (S.asked source.old) (S.asked source.new)
         (Looks (named_in files.entry) (fault_in result)) }
 {
     let documents = documents_in(alloc, source, files, read_for(question))?;
-    answer(alloc, question, &documents, out)
+    answer_question(alloc, question, &documents, out)
 }
 
 /// Checks the texts in files.
@@ -74,7 +74,7 @@ fn check_files<S: Source, O: Output, E: Output>(
         (device (E.written err.old) (E.failed err.old))
         (device (E.written err.new) (E.failed err.new)) result }
     ensures spared { IfErr result (λ _. (out.new ≡ out.old) × (err.new ≡ err.old)) }
-    ensures counted { S.failed source.new ≡ S.failed source.old + failed_by result }
+    ensures counted { S.failed source.new ≡ S.failed source.old + failed_reads result }
     ensures asked { AsksFor (S.asked source.old) (S.asked source.new)
         (Looks (named_with files.entry (name_in name.entry)) (fault_in result)) }
 {
@@ -101,7 +101,7 @@ fn replay_files<S: Source, O: Output>(
         (device (O.written out.old) (O.failed out.old))
         (device (O.written out.new) (O.failed out.new)) err err result }
     ensures spared { IfErr result (λ _. out.new ≡ out.old) }
-    ensures counted { S.failed source.new ≡ S.failed source.old + failed_by result }
+    ensures counted { S.failed source.new ≡ S.failed source.old + failed_reads result }
     ensures asked { AsksFor (S.asked source.old) (S.asked source.new)
         (Looks (all_named_in files.entry inputs.entry.now) (fault_in result)) }
 {
@@ -137,7 +137,7 @@ fn trace_files<S: Source, O: Output>(
         (device (O.written out.old) (O.failed out.old))
         (device (O.written out.new) (O.failed out.new)) err err result }
     ensures spared { IfErr result (λ _. out.new ≡ out.old) }
-    ensures counted { S.failed source.new ≡ S.failed source.old + failed_by result }
+    ensures counted { S.failed source.new ≡ S.failed source.old + failed_reads result }
     ensures asked { AsksFor (S.asked source.old) (S.asked source.new)
         (Looks (all_named_in files.entry inputs.entry.now) (fault_in result)) }
 {
@@ -161,7 +161,7 @@ fn draw_files<S: Source, O: Output>(
         (device (O.written out.old) (O.failed out.old))
         (device (O.written out.new) (O.failed out.new)) err err result }
     ensures spared { IfErr result (λ _. out.new ≡ out.old) }
-    ensures counted { S.failed source.new ≡ S.failed source.old + failed_by result }
+    ensures counted { S.failed source.new ≡ S.failed source.old + failed_reads result }
     ensures asked { AsksFor (S.asked source.old) (S.asked source.new)
         (Looks (all_named_in files.entry inputs.entry.now) (fault_in result)) }
 {
@@ -177,7 +177,7 @@ fn draw_files<S: Source, O: Output>(
 }
 
 /// Does what a command says, up to a fault.
-fn follow<S: Source, O: Output, E: Output>(
+fn try_command<S: Source, O: Output, E: Output>(
     alloc: Global,
     command: Command<'_>,
     source: &mut S,
@@ -193,7 +193,7 @@ fn follow<S: Source, O: Output, E: Output>(
         (device (E.written err.old) (E.failed err.old))
         (device (E.written err.new) (E.failed err.new)) result }
     ensures spared { IfErr result (λ _. (out.new ≡ out.old) × (err.new ≡ err.old)) }
-    ensures counted { S.failed source.new ≡ S.failed source.old + failed_by result }
+    ensures counted { S.failed source.new ≡ S.failed source.old + failed_reads result }
     ensures asked { AsksFor (S.asked source.old) (S.asked source.new)
         (Looks (files_sought command.entry) (fault_in result)) }
 {
@@ -211,7 +211,7 @@ fn follow<S: Source, O: Output, E: Output>(
 ///
 /// The files are read and checked in the order of the words. A failed write of a result ends with
 /// [`Status::Failed`] and no fault line; a failed write to `err` changes nothing.
-pub fn obey<S: Source, O: Output, E: Output>(
+pub fn run_command<S: Source, O: Output, E: Output>(
     alloc: Global,
     command: Command<'_>,
     source: &mut S,
@@ -229,13 +229,13 @@ pub fn obey<S: Source, O: Output, E: Output>(
         (device (E.written err.new) (E.failed err.new)) result
         × ((failures : ℕ) → S.failed source.new ≡ S.failed source.old + failures
         → TellsOfReads failures reply
-        × ((held : Held)
+        × ((held : Contents)
         → AreTold (S.files source.old) held (files_sought command.entry)
         → AnswersCommand held command.entry failures reply))
         × AsksFor (S.asked source.old) (S.asked source.new)
         (LooksAsTold (files_sought command.entry) reply) }
 {
-    match follow(alloc, command, source, out, err) {
+    match try_command(alloc, command, source, out, err) {
         Ok(status) => status,
         Err(fault) => complain(err, fault),
     }

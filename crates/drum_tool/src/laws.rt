@@ -9,9 +9,9 @@ ghost use Rattle.drum_lines.specs.declared.part.Part.TheVariants as part;
 ghost use Rattle.drum_lines.specs.declared.status.Status.TheVariants.{Done};
 ghost use Rattle.drum_lines.specs.FaultStatus.{status_after};
 ghost use Rattle.drum_documents.specs.Asked.{named};
-ghost use Rattle.drum_documents.specs.Files.{AreTold, FilesTold, Held};
+ghost use Rattle.drum_documents.specs.Files.{AreTold, FilesTold, Contents};
 ghost use Rattle.drum_lines.specs.Reply.{Reply, bound_reply, fault_reply};
-ghost use Rattle.drum_tool.specs.Told.{AreNames, IsBoundOfFiles, IsBoundOfJoined};
+ghost use Rattle.drum_tool.specs.BoundOfFiles.{AreNames, IsBoundOfFiles, IsBoundOfJoined};
 ghost use Rattle.drum_tool.specs.Words.{Answers, AreRefused, refused_reply};
 
 use drum_command::laws::each_line_is_taken;
@@ -20,7 +20,7 @@ use drum_command::laws::each_line_is_taken;
 /// they hold, or by a fault's.
 pub fn bound_is_of_the_files()
     ensures { (deck times notes : Text) (input : Option (List ℕ)) (files : FilesTold)
-        (failures : ℕ) (reply : Reply) (held : Held) → AreNames (deck ∷ times ∷ notes ∷ [])
+        (failures : ℕ) (reply : Reply) (held : Contents) → AreNames (deck ∷ times ∷ notes ∷ [])
         → AreTold files held (named deck times notes)
         → Answers (codes "bound" ∷ deck ∷ times ∷ notes ∷ []) input files failures reply
         → ((bound : ℕ) × IsBoundOfFiles (held part.Deck) (held part.Times) (held part.Notes) bound

@@ -2,7 +2,7 @@
 //! what goes out.
 //!
 //! Code, from the top down. `running` has `run` and `run_joined`, the program. `commands` has
-//! `obey`: what each command does with its files. `laws` has laws of the definitions.
+//! `run_command`: what each command does with its files. `laws` has laws of the definitions.
 //!
 //! Definitions, in the order to read them: `Commands` is the reply to a command, by what its files
 //! hold, and to a joined form, and `Words` that to the program's words. `Told` is the bound of
@@ -17,14 +17,15 @@ mod commands;
 pub mod laws;
 mod running;
 
-pub use commands::obey;
+pub use commands::run_command;
 pub use drum_bound::{Analysis, Refusal, Way, analyse, bound};
 pub use drum_ceiling::{Bracket, Ceiling, ceiling, reached};
-pub use drum_check::{Finding, Findings, Kept, Lacking, Within, list_findings};
+pub use drum_check::{Findings, Lacking, list_findings};
 pub use drum_deck::{Deck, DeckFault, read_deck};
 pub use drum_devices::Reading;
 pub use drum_documents::{Documents, Source};
 pub use drum_faults::{NamedText, PlacedFault, Slip, deck_faults, fault_lines, input_faults};
+pub use drum_finding::{Finding, UnchangedParts, Within};
 pub use drum_inputs::{InputFault, Inputs, read_inputs};
 pub use drum_lines::{Fault, Part, PartFault, Status, Verdict, WriteFault, tell_fault, tell_usage};
 pub use drum_replay::replay;

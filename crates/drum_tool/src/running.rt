@@ -3,7 +3,7 @@
 ghost use Rattle.std.specs.Prelude.{◌≡◌, ◌+◌, ◌^◌, ◌<◌, ◌≤◌, ◌⊎◌, ℕ, List, Some, IfOk};
 ghost use Rattle.std.specs.Prelude.{IfErr, IfSome, IsErrOf, length};
 ghost use Rattle.clap.specs.Walk.{texts};
-ghost use Rattle.drum_lines.specs.FaultStatus.{failed_by, reads_failed};
+ghost use Rattle.drum_lines.specs.FaultStatus.{failed_reads, reads_failed};
 ghost use Rattle.drum_documents.specs.Joined.{IsPastLimit};
 ghost use Rattle.drum_lines.specs.Output.{Tells, device};
 ghost use Rattle.drum_lines.specs.Reply.{Reply, TellsOfReads, bound_reply, fault_reply};
@@ -11,7 +11,7 @@ ghost use Rattle.drum_command.specs.Refusal.{IsShort};
 ghost use Rattle.drum_tool.specs.Commands.{AnswersJoined};
 ghost use Rattle.drum_tool.specs.Words.{Answers, Asks, ReadsAll, refused_reply};
 
-use crate::commands::obey;
+use crate::commands::run_command;
 use drum_command::{Refused, read_words};
 use drum_devices::{Input, Output};
 use drum_documents::{Source, bound_of, documents_of};
@@ -26,7 +26,7 @@ fn joined_bound<I: Input>(alloc: Global, input: &mut I) -> Result<u64, Fault>
     ensures fault { IfErr result (λ fault. IfSome (I.unread input.old) (λ bytes.
         AnswersJoined bytes (reads_failed fault) (fault_reply fault))) }
     ensures counted { (failures : ℕ) → I.failed input.new ≡ I.failed input.old + failures
-        → failures ≡ failed_by result }
+        → failures ≡ failed_reads result }
     ensures whole { ¬ IsErrOf result (Fault.Part Part.Joined PartFault.Read)
         → ¬ IsErrOf result Fault.Memory → (I.ended input.new ≡ I.ended input.old + 1)
         ⊎ (I.given input.new ≡ I.given input.old + 16777217) }
@@ -105,7 +105,7 @@ fn refuse<O: Output, E: Output>(out: &mut O, err: &mut E, refused: &Refused) -> 
 /// The program: does what the words after its name say, and tells how it ends.
 ///
 /// With no words it does what [`run_joined`] does; else it reads a command and its files, as
-/// [`obey`] does, or says why the words name none: help goes to `out`, all else to `err`.
+/// [`run_command`] does, or says why the words name none: help goes to `out`, all else to `err`.
 pub fn run<'a, S: Source, I: Input, O: Output, E: Output>(
     alloc: Global,
     words: &'a [&'a str],
@@ -146,7 +146,7 @@ pub fn run<'a, S: Source, I: Input, O: Output, E: Output>(
         return run_joined(alloc, input, out, err);
     }
     match read_words(alloc, words) {
-        Ok(command) => obey(alloc, command, source, out, err),
+        Ok(command) => run_command(alloc, command, source, out, err),
         Err(refused) => refuse(out, err, &refused),
     }
 }

@@ -42,7 +42,7 @@ const WANTS: [&str; 6] = [
 
 impl Answer<'_> {
     /// Whether it says that there is no memory, and nothing else.
-    pub(crate) fn is_wanting(&self) -> bool {
+    pub(crate) fn is_out_of_memory(&self) -> bool {
         match self {
             Answer::Whole(Err(WholeError::Memory))
             | Answer::Deck(Err(DeckFault::Memory))

@@ -1,9 +1,10 @@
 //! Tests of lack of memory. `checks/refuse-memory` runs each with its requests for memory refused.
 //!
-//! Calls that take memory answer that it is wanting, or what they answer ever: `calls` is a table
+//! Calls that take memory answer that there is none, or what they always answer: `calls` is a table
 //! of them, and `watched` tries each in a `window`, where memory may be refused. `subjects` are the
 //! decks, and an `answer` is what a call answered. Calls that take none make no request: `spared`
-//! has these. `page` has room for a small text, with no memory.
+//! has these, by what they are of: `spared/graphs`, `spared/machines` and `spared/reports`. `page`
+//! has room for a small text, with no memory.
 #![tactic(auto)]
 
 #[cfg(test)]

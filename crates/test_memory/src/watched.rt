@@ -21,13 +21,15 @@ fn holds(rt: &(impl AllocGlobal + Abort), call: Call<'_>) -> Result<(), Fail> {
         let spent = call.spent(rt.alloc())?;
         round.begin(rt);
         let answer = call.make(rt.alloc(), spent);
-        let is_wanting = answer.as_ref().is_some_and(|answer| answer.is_wanting());
-        round.end(rt, is_wanting);
+        let is_out_of_memory = answer
+            .as_ref()
+            .is_some_and(|answer| answer.is_out_of_memory());
+        round.end(rt, is_out_of_memory);
         let told = format!(in rt.alloc(); "{answer:?}")?;
         if known.is_empty() {
             known = told;
         } else {
-            assert!(rt; is_wanting || told == known, "{told}");
+            assert!(rt; is_out_of_memory || told == known, "{told}");
         }
     }
     Ok(())

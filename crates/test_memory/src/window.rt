@@ -55,10 +55,10 @@ impl Round {
 
     /// Ends the round, right behind the call: it answers that there is no memory only where memory
     /// was refused.
-    pub(crate) fn end(self, rt: &(impl AllocGlobal + Abort), is_wanting: bool) {
+    pub(crate) fn end(self, rt: &(impl AllocGlobal + Abort), is_out_of_memory: bool) {
         let was_refused = self == Round::Watched && close(rt);
         assert!(rt;
-            was_refused || !is_wanting,
+            was_refused || !is_out_of_memory,
             "memory is wanting in the round {self:?}"
         );
     }

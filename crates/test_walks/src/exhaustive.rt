@@ -1,6 +1,6 @@
 //! The analysis of small decks against a search through all their walks.
 
-use crate::search::{Search, Steps};
+use crate::search::{Steps, WalkSearch};
 use crate::support::{Subject, listed, marked};
 use crate::times::strange_times;
 use std::process::Abort;
@@ -33,7 +33,7 @@ fn agrees(
 ) -> Result<(), Fail> {
     let subject = Subject::of(rt.alloc(), deck, times, notes)?;
     let analysis = subject.analysed(rt)?;
-    let search = Search::of(rt.alloc(), &subject, steps)?.ok_or("fewer walks")?;
+    let search = WalkSearch::of(rt.alloc(), &subject, steps)?.ok_or("fewer walks")?;
     assert_eq!(rt; analysis.bound(), search.latest(), "for {deck}");
     assert_eq!(rt; analysis.table().len(), search.reached(), "for {deck}");
     let behind = (u64::from(subject.deck.start().number()) + 1) % 50;

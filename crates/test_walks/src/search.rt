@@ -43,7 +43,7 @@ pub struct Steps {
 
 /// What the walks are found to do.
 #[derive(Debug, Drop)]
-pub struct Search<'a> {
+pub struct WalkSearch<'a> {
     subject: &'a Subject,
     steps: Steps,
     open: Vec<Stand>,
@@ -96,14 +96,14 @@ fn counts_after(marks: &[Mark], stand: &Stand, onto: u16) -> Option<[u16; 8]> {
     Some(counts)
 }
 
-impl<'a> Search<'a> {
+impl<'a> WalkSearch<'a> {
     /// Goes through all walks, from every start angle; `None` where there are too many.
     pub fn of(
         alloc: Global,
         subject: &'a Subject,
         steps: Steps,
-    ) -> Result<Option<Search<'a>>, AllocError> {
-        let mut search = Search {
+    ) -> Result<Option<WalkSearch<'a>>, AllocError> {
+        let mut search = WalkSearch {
             subject,
             steps,
             open: Vec::new(alloc),

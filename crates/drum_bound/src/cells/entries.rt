@@ -37,8 +37,8 @@ impl Entries {
     ghost use Rattle.std.specs.Map.{keys_of, values_of};
     ghost use Rattle.indexmap.specs.IndexMap.{get};
     ghost use Rattle.drum_bound.specs.EndOf.{latest_in};
-    ghost use Rattle.drum_bound.specs.Kept.{AreKept, IsEntryOf, Keeps, first_entry, kept_of};
-    ghost use Rattle.drum_bound.specs.Kept.{pairs_of};
+    ghost use Rattle.drum_bound.specs.InEntries.{AreKept, IsEntryOf, Keeps, first_entry, kept_of};
+    ghost use Rattle.drum_bound.specs.InEntries.{pairs_of};
 
     /// The start's alone: its key keeps the moment of the start, at this angle.
     pub fn new(

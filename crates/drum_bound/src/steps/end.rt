@@ -3,10 +3,10 @@
 ghost use Rattle.std.specs.Prelude.{◌≡◌, ◌+◌, ◌%◌, ◌<◌, ◌≤◌, ◌^◌};
 
 use super::Steps;
+use crate::instruction_search::InstructionSearch;
 use crate::key_hop::KeyHop;
 use crate::latest::Latest;
 use crate::leap::Leap;
-use crate::search::Search;
 use drum_core::REVOLUTION;
 use std::sync::ledger::Ledger;
 
@@ -25,7 +25,12 @@ impl End {
     /// The end of a hop of the key whose instruction is sought, that of this number among the
     /// key's: the latest that it can have.
     #[inline(always)]
-    pub fn of<L: Ledger>(search: &Search, number: usize, leap: &Leap, steps: &mut Steps<L>) -> End
+    pub fn of<L: Ledger>(
+        search: &InstructionSearch,
+        number: usize,
+        leap: &Leap,
+        steps: &mut Steps<L>,
+    ) -> End
         ghost setting: { Setting }
         requires { CanEnd setting search.now number leap.now }
         ensures latest { latest_in result ≡ end_sought setting search.now number leap.now }

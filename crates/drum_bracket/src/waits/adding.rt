@@ -12,7 +12,7 @@ ghost use Rattle.drum_bracket.specs.RoundsWaitsOf.{IsOfPiece};
 
 use super::alone::alone;
 use super::kind_row::KindRow;
-use drum_listing::{Kind, Spent, Waited};
+use drum_hop_lines::{Kind, Spent, Waited};
 use drum_rounds::InRounds;
 use drum_times::Times;
 use drum_walks::{Piece, Placed};

@@ -2,18 +2,18 @@
 
 ghost use Rattle.std.specs.Prelude.{◌≡◌};
 ghost use Rattle.drum_walks.specs.Pieces.{seen_placed};
-ghost use Rattle.drum_listing.specs.Told.{seen_told};
+ghost use Rattle.drum_hop_lines.specs.TimedHop.{seen_timed};
 ghost use Rattle.drum_bracket.specs.RoundsText.{from_to};
 
-use drum_listing::Told;
+use drum_hop_lines::TimedHop;
 use drum_walks::Placed;
 
 /// A hop of a piece, begun at time 0, that takes so many word times.
-pub fn alone(one: Placed, took: u64) -> Told
-    ensures told { seen_told result ≡ from_to 0 took (seen_placed one) }
+pub fn alone(one: Placed, took: u64) -> TimedHop
+    ensures told { seen_timed result ≡ from_to 0 took (seen_placed one) }
     ensures at_once { result.begun ≡ 0 }
 {
-    Told {
+    TimedHop {
         place: one.location,
         instruction: one.hop.instruction,
         way: one.hop.way,

@@ -3,7 +3,7 @@
 ghost use Rattle.std.specs.Prelude.{◌≡◌};
 
 use super::alone::alone;
-use drum_listing::{Spent, Sums, Told};
+use drum_hop_lines::{Spent, Sums, TimedHop};
 use drum_times::Times;
 use drum_walks::Placed;
 
@@ -13,7 +13,7 @@ pub struct KindRow {
     /// The number of that piece.
     pub number: usize,
     /// Its hop alone, begun at time 0.
-    pub told: Told,
+    pub told: TimedHop,
     /// The drum's angle when that hop begins.
     pub angle: u8,
     /// What all of them take.
@@ -26,7 +26,7 @@ impl KindRow {
     ghost use Rattle.drum_times.specs.Entries.{entry_in};
     ghost use Rattle.drum_walks.specs.Pieces.{seen_placed};
     ghost use Rattle.drum_rounds.specs.InRounds.{takes};
-    ghost use Rattle.drum_listing.specs.Told.{seen_told};
+    ghost use Rattle.drum_hop_lines.specs.TimedHop.{seen_timed};
     ghost use Rattle.drum_bracket.specs.RoundsWaitsOf.{alone, waits_data, waits_instruction};
 
     /// The row of one piece: a hop that takes `took` word times and comes `often` times.
@@ -36,7 +36,7 @@ impl KindRow {
         requires instruction { waits_instruction (entry_in times.now) (seen_placed one) ≤ took }
         requires operand { waits_data (entry_in times.now) (seen_placed one) ≤ took }
         ensures number { result.number ≡ number }
-        ensures told { seen_told result.told ≡ alone (entry_in times.now) (seen_placed one) }
+        ensures told { seen_timed result.told ≡ alone (entry_in times.now) (seen_placed one) }
         ensures angle { result.angle ≡ one.angle }
         ensures visits { result.sums.visits ≡ often }
         ensures time { result.sums.time ≡ often * takes (entry_in times.now) (seen_placed one) }

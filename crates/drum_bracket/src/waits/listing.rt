@@ -2,7 +2,7 @@
 
 ghost use Rattle.std.specs.Prelude.{◌≡◌, ◌+◌, ◌^◌, ◌≤◌, IfOk, flat_map, length};
 ghost use Rattle.drum_times.specs.Entries.{entry_in};
-ghost use Rattle.drum_lines.specs.Sent.{IsSent, IsWritten, fails_by};
+ghost use Rattle.drum_lines.specs.Sent.{IsSent, IsWritten, failed_writes};
 ghost use Rattle.drum_bracket.specs.RoundsWaitsOf.{listed, row_text};
 
 use super::WaitsInRounds;
@@ -10,8 +10,8 @@ use super::kind_row::KindRow;
 use crate::prices::send_totals;
 use drum_ceiling::Bracket;
 use drum_devices::Output;
+use drum_hop_lines::{send_kind, send_total};
 use drum_lines::WriteFault;
-use drum_listing::{send_kind, send_total};
 use drum_times::Times;
 
 /// Writes the lines of rows.
@@ -24,7 +24,7 @@ fn send_rows<O: Output>(
     requires few { length rows.now ≤ 2 ^ 32 }
     ensures sent { IsSent (O.written writer.old) (O.written writer.new) 0 result
         (flat_map (row_text (entry_in times.now)) rows.now) }
-    ensures failures { O.failed writer.new ≡ O.failed writer.old + fails_by result }
+    ensures failures { O.failed writer.new ≡ O.failed writer.old + failed_writes result }
     ensures calls { O.called writer.new ≤ O.called writer.old + 2 ^ 42 }
     ensures few { IfOk result (λ total. total ≤ 2 ^ 42) }
 {
@@ -52,7 +52,7 @@ pub fn list_rounds_waits<O: Output>(
     requires { O.called writer.old ≤ 2 ^ 62 }
     ensures written { IsWritten (O.written writer.old) (O.written writer.new) result
         (listed (entry_in times.now) waits.now bracket.now) }
-    ensures failures { O.failed writer.new ≡ O.failed writer.old + fails_by result }
+    ensures failures { O.failed writer.new ≡ O.failed writer.old + failed_writes result }
 {
     let sent = send_rows(writer, waits.rows(), times)?;
     let sent = send_total(writer, sent, bracket.walk.total(), &waits.waited)?;

@@ -1,6 +1,6 @@
 ghost use Rattle.std.specs.Prelude.{◌≡◌, ℕ, ◌+◌, ◌<◌, ◌≤◌, ◌⊎◌, vec_len, length, take, slice_get};
 ghost use Rattle.std.specs.Prelude.{OnOk, IfErr};
-ghost use Rattle.drum_deck.specs.Loaded.{IsFirstLoaded};
+ghost use Rattle.drum_deck.specs.FirstLoaded.{IsFirstLoaded};
 ghost use Rattle.std.specs.Option.{ForSome};
 
 use super::card::Card;
@@ -23,7 +23,7 @@ pub struct Loading {
 impl Loading {
     ghost use Rattle.std.specs.Prelude.{◌≢◌, ◌++◌, ◌∷◌, [], List, IfOk};
     ghost use Rattle.drum_deck.specs.DeckText as text;
-    ghost use Rattle.drum_deck.specs.Holds.{HoldsLines, IsDeckOf};
+    ghost use Rattle.drum_deck.specs.DeckOfLines.{HoldsLines, IsDeckOf};
 
     /// A deck of which no line has been read.
     pub fn new(alloc: Global) -> Result<Loading, AllocError>

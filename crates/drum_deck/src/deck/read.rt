@@ -3,7 +3,7 @@
 ghost use Rattle.std.specs.Prelude.{◌≡◌, ◌≢◌, ◌+◌, ◌^◌, ◌≤◌, ◌↔◌, ◌⊎◌, List, IsErrOf, IfOk, IfErr};
 ghost use Rattle.std.specs.Prelude.{IfSome};
 ghost use Rattle.drum_deck.specs.DeckText.{Line, IsTooLong, IsDeck, IsRefused};
-ghost use Rattle.drum_deck.specs.Holds.{IsDeckOf};
+ghost use Rattle.drum_deck.specs.DeckOfLines.{IsDeckOf};
 
 use super::Deck;
 use super::fault::DeckFault;

@@ -1,6 +1,6 @@
 ghost use Rattle.std.specs.Prelude.{◌≡◌, ◌+◌, ◌^◌, ◌≤◌};
 ghost use Rattle.drum_lines.specs.FaultText.{deck_text};
-ghost use Rattle.drum_lines.specs.Sent.{IsWritten, fails_by};
+ghost use Rattle.drum_lines.specs.Sent.{IsWritten, failed_writes};
 
 use super::{write_located, write_numbered, write_text};
 use crate::failed_write::WriteFault;
@@ -12,7 +12,7 @@ pub fn write_deck_fault<O: Output>(output: &mut O, fault: &DeckFault) -> Result<
     requires { O.called output.old ≤ 2 ^ 62 }
     ensures written { IsWritten (O.written output.old) (O.written output.new) result
         (deck_text fault.now) }
-    ensures failures { O.failed output.new ≡ O.failed output.old + fails_by result }
+    ensures failures { O.failed output.new ≡ O.failed output.old + failed_writes result }
 {
     match *fault {
         DeckFault::Read => write_text(output, b"fault 1 deck read\n"),

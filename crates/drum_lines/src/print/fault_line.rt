@@ -1,6 +1,6 @@
 ghost use Rattle.std.specs.Prelude.{◌≡◌, ◌+◌, ◌^◌, ◌≤◌};
 ghost use Rattle.drum_lines.specs.FaultText.{fault_text};
-ghost use Rattle.drum_lines.specs.Sent.{IsWritten, fails_by};
+ghost use Rattle.drum_lines.specs.Sent.{IsWritten, failed_writes};
 
 use super::deck_fault::write_deck_fault;
 use super::input_fault::write_input_fault;
@@ -18,7 +18,7 @@ pub fn write_fault<O: Output>(output: &mut O, fault: &Fault) -> Result<(), Write
     requires { O.called output.old ≤ 2 ^ 62 }
     ensures written { IsWritten (O.written output.old) (O.written output.new) result
         (fault_text fault.now) }
-    ensures failures { O.failed output.new ≡ O.failed output.old + fails_by result }
+    ensures failures { O.failed output.new ≡ O.failed output.old + failed_writes result }
 {
     match fault {
         Fault::NoPart => write_text(output, b"fault 51 nopart\n"),

@@ -3,7 +3,7 @@
 ghost use Rattle.std.specs.Prelude.{◌≡◌, ◌+◌, ◌^◌, ◌≤◌, ◌++◌, codes, length, string_bytes};
 ghost use Rattle.drum_times.specs.declared.fault.NoteFault.TheVariants.{TwoMarks};
 ghost use Rattle.drum_lines.specs.FaultText.{note_text, part_name};
-ghost use Rattle.drum_lines.specs.Sent.{IsWritten, fails_by};
+ghost use Rattle.drum_lines.specs.Sent.{IsWritten, failed_writes};
 
 use super::part_fault::name_of;
 use super::{four_digits, write_line};
@@ -22,7 +22,7 @@ pub fn write_note_fault<O: Output>(
     requires { O.called output.old ≤ 2 ^ 62 }
     ensures written { IsWritten (O.written output.old) (O.written output.new) result
         (note_text (part_name part) fault.now) }
-    ensures failures { O.failed output.new ≡ O.failed output.old + fails_by result }
+    ensures failures { O.failed output.new ≡ O.failed output.old + failed_writes result }
 {
     match fault {
         NoteFault::Toml => {
@@ -59,7 +59,7 @@ fn write_key<'a, O: Output>(
     requires middle { length middle.now ≤ 100 }
     ensures written { IsWritten (O.written output.old) (O.written output.new) result
         (begin.now ++ part_name part ++ middle.now ++ string_bytes key.now.text ++ codes "\n") }
-    ensures failures { O.failed output.new ≡ O.failed output.old + fails_by result }
+    ensures failures { O.failed output.new ≡ O.failed output.old + failed_writes result }
 {
     let name: &'a [u8] = name_of(part);
     let pieces: [&'a [u8]; 5] = [begin, name, middle, key.as_bytes(), b"\n"];
@@ -76,7 +76,7 @@ fn write_two_marks<O: Output>(
     requires { O.called output.old ≤ 2 ^ 62 }
     ensures written { IsWritten (O.written output.old) (O.written output.new) result
         (note_text (part_name part) (TwoMarks from onto)) }
-    ensures failures { O.failed output.new ≡ O.failed output.old + fails_by result }
+    ensures failures { O.failed output.new ≡ O.failed output.old + failed_writes result }
 {
     let from = four_digits(from.number());
     let onto = four_digits(onto.number());

@@ -3,7 +3,7 @@
 ghost use Rattle.std.specs.Prelude.{◌≡◌, ◌+◌, ◌*◌, ◌^◌, ◌≤◌, IfOk, flat_map, length};
 ghost use Rattle.drum_flow.specs.declared.refusal.Refusal.TheVariants.{Unbounded};
 ghost use Rattle.drum_lines.specs.FaultText.{next_location, refusal_text};
-ghost use Rattle.drum_lines.specs.Sent.{IsSent, IsWritten, fails_by};
+ghost use Rattle.drum_lines.specs.Sent.{IsSent, IsWritten, failed_writes};
 
 use super::{four_digits, send, two_digits, write_line, write_located, write_text};
 use crate::failed_write::WriteFault;
@@ -17,7 +17,7 @@ pub fn write_refusal<O: Output>(output: &mut O, refusal: &Refusal) -> Result<(),
     requires { O.called output.old ≤ 2 ^ 62 }
     ensures written { IsWritten (O.written output.old) (O.written output.new) result
         (refusal_text refusal.now) }
-    ensures failures { O.failed output.new ≡ O.failed output.old + fails_by result }
+    ensures failures { O.failed output.new ≡ O.failed output.old + failed_writes result }
 {
     match refusal {
         Refusal::Memory => write_text(output, b"fault 31 memory\n"),
@@ -51,7 +51,7 @@ fn write_cycle<O: Output>(output: &mut O, cycle: &Cycle) -> Result<(), WriteFaul
     requires { O.called output.old ≤ 2 ^ 62 }
     ensures written { IsWritten (O.written output.old) (O.written output.new) result
         (refusal_text (Unbounded cycle.now)) }
-    ensures failures { O.failed output.new ≡ O.failed output.old + fails_by result }
+    ensures failures { O.failed output.new ≡ O.failed output.old + failed_writes result }
 {
     let begin: [&[u8]; 1] = [b"fault 35 unbounded"];
     let end: [&[u8]; 1] = [b"\n"];
@@ -73,7 +73,7 @@ fn send_locations<O: Output>(
     requires locations { length locations.now ≤ 2 ^ 30 }
     ensures sent { IsSent (O.written output.old) (O.written output.new) sent result
         (flat_map next_location locations.now) }
-    ensures failures { O.failed output.new ≡ O.failed output.old + fails_by result }
+    ensures failures { O.failed output.new ≡ O.failed output.old + failed_writes result }
     ensures calls { O.called output.new ≤ O.called output.old + 5 * length locations.now }
     ensures few { IfOk result (λ total. total ≤ sent + 5 * length locations.now) }
 {

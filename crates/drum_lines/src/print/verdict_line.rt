@@ -4,7 +4,7 @@ ghost use Rattle.std.specs.Prelude.{◌≡◌, ◌+◌, ◌^◌, ◌≤◌, ◌+
 ghost use Rattle.drum_core.specs.Word.{spelling};
 ghost use Rattle.drum_machine.specs.declared.left.Left.TheVariants.{Unlisted};
 ghost use Rattle.drum_core.specs.Numeral.{digits_of};
-ghost use Rattle.drum_lines.specs.Sent.{IsWritten, fails_by};
+ghost use Rattle.drum_lines.specs.Sent.{IsWritten, failed_writes};
 ghost use Rattle.drum_lines.specs.declared.verdict.Verdict.TheVariants.{Kept};
 ghost use Rattle.drum_lines.specs.VerdictText.{left_text, limit_name, verdict_text, why_name};
 
@@ -26,7 +26,7 @@ pub fn write_verdict<O: Output>(
     requires { O.called output.old ≤ 2 ^ 62 + 2 ^ 60 }
     ensures written { IsWritten (O.written output.old) (O.written output.new) result
         (verdict_text limit verdict.now) }
-    ensures failures { O.failed output.new ≡ O.failed output.old + fails_by result }
+    ensures failures { O.failed output.new ≡ O.failed output.old + failed_writes result }
 {
     match *verdict {
         Verdict::Kept { used, bound, why } => write_kept(output, limit, used, bound, why),
@@ -45,7 +45,7 @@ fn write_kept<O: Output>(
     requires { O.called output.old ≤ 2 ^ 62 + 2 ^ 60 }
     ensures written { IsWritten (O.written output.old) (O.written output.new) result
         (verdict_text limit (Kept used bound why)) }
-    ensures failures { O.failed output.new ≡ O.failed output.old + fails_by result }
+    ensures failures { O.failed output.new ≡ O.failed output.old + failed_writes result }
 {
     let mut spent = Buffer::new();
     let mut most = Buffer::new();
@@ -95,7 +95,7 @@ fn write_left<O: Output>(output: &mut O, what: Left, step: u64, used: u64) -> Re
     requires { O.called output.old ≤ 2 ^ 62 + 2 ^ 60 }
     ensures written { IsWritten (O.written output.old) (O.written output.new) result
         (left_text what step used) }
-    ensures failures { O.failed output.new ≡ O.failed output.old + fails_by result }
+    ensures failures { O.failed output.new ≡ O.failed output.old + failed_writes result }
 {
     match what {
         Left::Unlisted(location, word) => write_unlisted(output, location, word, step, used),
@@ -119,7 +119,7 @@ fn write_unlisted<O: Output>(
     requires { O.called output.old ≤ 2 ^ 62 + 2 ^ 60 }
     ensures written { IsWritten (O.written output.old) (O.written output.new) result
         (left_text (Unlisted location word) step used) }
-    ensures failures { O.failed output.new ≡ O.failed output.old + fails_by result }
+    ensures failures { O.failed output.new ≡ O.failed output.old + failed_writes result }
 {
     let at = four_digits(location.number());
     let spelled = spelling_of(word);
@@ -153,7 +153,7 @@ fn write_edge<O: Output>(
     ensures written { IsWritten (O.written output.old) (O.written output.new) result
         (text.now ++ digits_of 4 from.number ++ codes " " ++ digits_of 4 onto.number
         ++ codes " step " ++ decimal step ++ codes " used " ++ decimal used ++ codes "\n") }
-    ensures failures { O.failed output.new ≡ O.failed output.old + fails_by result }
+    ensures failures { O.failed output.new ≡ O.failed output.old + failed_writes result }
 {
     let from = four_digits(from.number());
     let onto = four_digits(onto.number());
@@ -184,7 +184,7 @@ fn write_at_step<O: Output>(
     requires short { length text.now ≤ 100 }
     ensures written { IsWritten (O.written output.old) (O.written output.new) result
         (text.now ++ decimal step ++ codes " used " ++ decimal used ++ codes "\n") }
-    ensures failures { O.failed output.new ≡ O.failed output.old + fails_by result }
+    ensures failures { O.failed output.new ≡ O.failed output.old + failed_writes result }
 {
     let mut number = Buffer::new();
     let mut spent = Buffer::new();

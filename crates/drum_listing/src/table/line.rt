@@ -3,14 +3,14 @@
 ghost use Rattle.std.specs.Prelude.{◌≡◌, ◌+◌, ◌^◌, ◌≤◌, ◌<◌, ◌++◌, IfOk, codes, decimal, flat_map};
 ghost use Rattle.std.specs.Prelude.{length};
 ghost use Rattle.drum_core.specs.Numeral.{digits_of};
-ghost use Rattle.drum_lines.specs.Sent.{IsSent, fails_by};
+ghost use Rattle.drum_lines.specs.Sent.{IsSent, failed_writes};
 ghost use Rattle.drum_machine.specs.CountsIn.{counts_in};
 ghost use Rattle.drum_bound.specs.RowOf.{row_in};
 ghost use Rattle.drum_listing.specs.TableText.{count_text, row_line};
 
-use crate::line::Line;
 use drum_bound::Worst;
 use drum_devices::Output;
+use drum_hop_lines::Line;
 use drum_lines::{WriteFault, four_digits, send};
 use drum_times::Mark;
 use itoa::Buffer;
@@ -41,7 +41,7 @@ fn send_place<O: Output>(writer: &mut O, sent: usize, row: &Worst) -> Result<usi
     ensures sent { IsSent (O.written writer.old) (O.written writer.new) sent result
         (digits_of 4 row.now.place.number ++ codes " angle " ++ decimal row.now.angle
         ++ codes " counts") }
-    ensures failures { O.failed writer.new ≡ O.failed writer.old + fails_by result }
+    ensures failures { O.failed writer.new ≡ O.failed writer.old + failed_writes result }
     ensures calls { O.called writer.new ≤ O.called writer.old + 80 }
     ensures few { IfOk result (λ total. total ≤ sent + 80) }
 {
@@ -62,7 +62,7 @@ fn send_count<O: Output>(writer: &mut O, sent: usize, count: u16) -> Result<usiz
     requires few { sent ≤ 2 ^ 61 }
     ensures sent { IsSent (O.written writer.old) (O.written writer.new) sent result
         (count_text count) }
-    ensures failures { O.failed writer.new ≡ O.failed writer.old + fails_by result }
+    ensures failures { O.failed writer.new ≡ O.failed writer.old + failed_writes result }
     ensures calls { O.called writer.new ≤ O.called writer.old + 10 }
     ensures few { IfOk result (λ total. total ≤ sent + 10) }
 {
@@ -77,7 +77,7 @@ fn send_counts<O: Output>(writer: &mut O, begun: usize, counts: &[u16]) -> Resul
     requires short { length counts.now ≤ 64 }
     ensures sent { IsSent (O.written writer.old) (O.written writer.new) begun result
         (flat_map count_text counts.now) }
-    ensures failures { O.failed writer.new ≡ O.failed writer.old + fails_by result }
+    ensures failures { O.failed writer.new ≡ O.failed writer.old + failed_writes result }
     ensures calls { O.called writer.new ≤ O.called writer.old + 640 }
     ensures few { IfOk result (λ total. total ≤ begun + 640) }
 {
@@ -94,7 +94,7 @@ fn send_time<O: Output>(writer: &mut O, sent: usize, time: u64) -> Result<usize,
     requires few { sent ≤ 2 ^ 61 }
     ensures sent { IsSent (O.written writer.old) (O.written writer.new) sent result
         (codes " time " ++ decimal time ++ codes "\n") }
-    ensures failures { O.failed writer.new ≡ O.failed writer.old + fails_by result }
+    ensures failures { O.failed writer.new ≡ O.failed writer.old + failed_writes result }
     ensures calls { O.called writer.new ≤ O.called writer.old + 80 }
     ensures few { IfOk result (λ total. total ≤ sent + 80) }
 {

@@ -2,16 +2,15 @@
 
 ghost use Rattle.std.specs.Prelude.{◌≡◌, ◌+◌, ◌^◌, ◌≤◌, IfOk, flat_map, length};
 ghost use Rattle.drum_bound.specs.RowOf.{row_in};
-ghost use Rattle.drum_lines.specs.Sent.{IsSent, IsWritten, fails_by};
+ghost use Rattle.drum_lines.specs.Sent.{IsSent, IsWritten, failed_writes};
 ghost use Rattle.drum_listing.specs.TableOf.{rows_in};
 ghost use Rattle.drum_listing.specs.TableText.{row_line, table_text};
 
 use super::Table;
 use super::line::RowLine;
-use crate::page::Page;
-use crate::passing::pass_line;
 use drum_bound::Worst;
 use drum_devices::Output;
+use drum_hop_lines::{Page, pass_line};
 use drum_lines::{WriteFault, send};
 use drum_times::Mark;
 
@@ -22,7 +21,7 @@ fn send_rows<O: Output>(writer: &mut O, rows: &[Worst], marks: &[Mark]) -> Resul
     requires marks { length marks.now ≤ 64 }
     ensures sent { IsSent (O.written writer.old) (O.written writer.new) 0 result
         (flat_map (λ row. row_line marks.now (row_in row)) rows.now) }
-    ensures failures { O.failed writer.new ≡ O.failed writer.old + fails_by result }
+    ensures failures { O.failed writer.new ≡ O.failed writer.old + failed_writes result }
 {
     let mut sent = 0;
     let mut page = Page::new();
@@ -48,7 +47,7 @@ pub fn list_table<O: Output>(
     requires marks { length marks.now ≤ 64 }
     ensures written { IsWritten (O.written writer.old) (O.written writer.new) result
         (table_text marks.now (rows_in table.now)) }
-    ensures failures { O.failed writer.new ≡ O.failed writer.old + fails_by result }
+    ensures failures { O.failed writer.new ≡ O.failed writer.old + failed_writes result }
 {
     send_rows(writer, &table.rows, marks)?;
     Ok(())

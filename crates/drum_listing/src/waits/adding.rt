@@ -3,15 +3,12 @@
 ghost use Rattle.std.specs.Prelude.{◌≡◌, ◌^◌, ◌<◌, ◌≤◌, IfOk, length, map, sum_by};
 ghost use Rattle.drum_times.specs.Entries.{entry_in};
 ghost use Rattle.drum_walks.specs.Visited.{seen_visit};
-ghost use Rattle.drum_listing.specs.Waits.{for_data, for_instruction, time_of};
-ghost use Rattle.drum_listing.specs.WaitsOf.{AreRows, waited_of};
+ghost use Rattle.drum_hop_lines.specs.Waits.{for_data, for_instruction, time_of};
+ghost use Rattle.drum_hop_lines.specs.KindsOf.{waited_of};
+ghost use Rattle.drum_listing.specs.WaitsOf.{AreRows};
 
-use super::kind::Kind;
-use super::spent::Spent;
-use super::sums::Sums;
-use super::wait::Wait;
-use super::waited::Waited;
-use crate::told::Told;
+use crate::waits::wait::Wait;
+use drum_hop_lines::{Kind, Spent, Sums, TimedHop, Waited};
 use drum_times::Times;
 use drum_walks::Visit;
 use indexmap::IndexMap;
@@ -26,7 +23,7 @@ fn spent_by(visit: &Visit, times: &Times, angle: u8) -> Sums
     ensures operand { result.operand
         ≡ for_data (entry_in times.now) angle (seen_visit visit.now) }
 {
-    Sums::of(&Spent::of(&Told::of(visit), times, angle), 1)
+    Sums::of(&Spent::of(&TimedHop::of(visit), times, angle), 1)
 }
 
 /// What the hops of each kind take in all, in the order in which the walk comes to the kinds, on a
@@ -67,7 +64,7 @@ pub fn waited(walk: &[Visit], times: &Times, angle: u8) -> Waited
 {
     let mut waited = Waited::none();
     for visit in walk {
-        waited = waited.with(&Spent::of(&Told::of(visit), times, angle), 1);
+        waited = waited.with(&Spent::of(&TimedHop::of(visit), times, angle), 1);
     }
     waited
 }

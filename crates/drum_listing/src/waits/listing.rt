@@ -3,17 +3,15 @@
 ghost use Rattle.std.specs.Prelude.{◌≡◌, ◌+◌, ◌^◌, ◌≤◌, IfOk, flat_map, length};
 ghost use Rattle.drum_times.specs.Entries.{entry_in};
 ghost use Rattle.drum_bound.specs.AnalysisOf.{angle_of, bound_of, visits_of};
-ghost use Rattle.drum_lines.specs.Sent.{IsSent, IsWritten, fails_by};
+ghost use Rattle.drum_lines.specs.Sent.{IsSent, IsWritten, failed_writes};
+ghost use Rattle.drum_hop_lines.specs.WaitsText.{waits_text};
 ghost use Rattle.drum_listing.specs.WaitsOf.{AreWaits, firsts_of, row_text};
-ghost use Rattle.drum_listing.specs.WaitsText.{waits_text};
 
-use super::Waits;
-use super::line::send_kind;
-use super::total::send_total;
-use super::wait::Wait;
-use crate::told::Told;
+use crate::waits::Waits;
+use crate::waits::wait::Wait;
 use drum_bound::Analysis;
 use drum_devices::Output;
+use drum_hop_lines::{TimedHop, send_kind, send_total};
 use drum_lines::{WriteFault, send_bound};
 use drum_times::Times;
 
@@ -28,13 +26,13 @@ fn send_waits<O: Output>(
     requires few { length rows.now ≤ 4000000 }
     ensures sent { IsSent (O.written writer.old) (O.written writer.new) 0 result
         (flat_map (row_text (entry_in times.now) angle) rows.now) }
-    ensures failures { O.failed writer.new ≡ O.failed writer.old + fails_by result }
+    ensures failures { O.failed writer.new ≡ O.failed writer.old + failed_writes result }
     ensures calls { O.called writer.new ≤ O.called writer.old + 2000000000 }
     ensures few { IfOk result (λ total. total ≤ 2000000000) }
 {
     let mut sent = 0;
     for wait in rows {
-        let told = Told::of(&wait.first);
+        let told = TimedHop::of(&wait.first);
         sent = send_kind(writer, sent, &told, &wait.sums, times, angle)?;
     }
     Ok(sent)
@@ -60,7 +58,7 @@ pub fn list_waits<O: Output>(
         → IsWritten (O.written writer.old) (O.written writer.new) result
         (waits_text (entry_in times.now) (angle_of analysis.now) (visits_of analysis.now)
         (firsts_of waits.now) (bound_of analysis.now)) }
-    ensures failures { O.failed writer.new ≡ O.failed writer.old + fails_by result }
+    ensures failures { O.failed writer.new ≡ O.failed writer.old + failed_writes result }
 {
     let bound = analysis.bound();
     let sent = send_waits(writer, waits.rows(), times, analysis.angle())?;

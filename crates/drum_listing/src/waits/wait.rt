@@ -1,4 +1,4 @@
-use super::sums::Sums;
+use drum_hop_lines::Sums;
 use drum_walks::Visit;
 
 /// The hops of a kind: the first of them, and what they take in all.

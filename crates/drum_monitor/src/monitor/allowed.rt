@@ -1,7 +1,7 @@
 //! Whether the notes allow an instruction at a location.
 
 ghost use Rattle.std.specs.Prelude.{flat_map, Contains, IsTrue, MatchBool};
-ghost use Rattle.drum_deck.specs.Loads.{loads_in};
+ghost use Rattle.drum_deck.specs.InDeck.{loads_in};
 ghost use Rattle.drum_times.specs.Allowed.{matching, loaded, is_listed, allowed};
 
 use drum_core::{Instruction, Location};

@@ -1,9 +1,9 @@
 //! The lines of a report, each written behind what has gone out.
 
 ghost use Rattle.std.specs.Prelude.{◌≡◌, ◌+◌, ◌*◌, ◌^◌, ◌<◌, ◌≤◌, List, IfOk, length, flat_map};
-ghost use Rattle.drum_deck.specs.Loads.{cards_in};
+ghost use Rattle.drum_deck.specs.InDeck.{cards_in};
 ghost use Rattle.drum_walks.specs.Visited.{Visited};
-ghost use Rattle.drum_lines.specs.Sent.{IsSent, fails_by};
+ghost use Rattle.drum_lines.specs.Sent.{IsSent, failed_writes};
 ghost use Rattle.drum_report.specs.Report.{card_line, mark_line};
 ghost use Rattle.drum_report.specs.TalliesOf.{AreByLine, ArePasses, told_of_card, told_of_mark};
 ghost use Rattle.drum_report.specs.TalliesOf.{told_of_others};
@@ -28,7 +28,7 @@ fn send_card<O: Output>(
     requires digits { line < 10 ^ 4 }
     ensures sent { IsSent (O.written writer.old) (O.written writer.new) sent result
         (told_of_card line tally.now) }
-    ensures failures { O.failed writer.new ≡ O.failed writer.old + fails_by result }
+    ensures failures { O.failed writer.new ≡ O.failed writer.old + failed_writes result }
     ensures calls { O.called writer.new ≤ O.called writer.old + 120 }
     ensures short { length (told_of_card line tally.now) ≤ 120 }
 {
@@ -57,7 +57,7 @@ pub fn send_other<O: Output>(
     requires few { sent ≤ 2 ^ 40 }
     ensures sent { IsSent (O.written writer.old) (O.written writer.new) sent result
         (told_of_others tally.now) }
-    ensures failures { O.failed writer.new ≡ O.failed writer.old + fails_by result }
+    ensures failures { O.failed writer.new ≡ O.failed writer.old + failed_writes result }
     ensures calls { O.called writer.new ≤ O.called writer.old + 120 }
     ensures short { length (told_of_others tally.now) ≤ 120 }
 {
@@ -84,7 +84,7 @@ fn send_mark<O: Output>(
     requires few { sent ≤ 2 ^ 40 }
     ensures sent { IsSent (O.written writer.old) (O.written writer.new) sent result
         (told_of_mark mark.now passed) }
-    ensures failures { O.failed writer.new ≡ O.failed writer.old + fails_by result }
+    ensures failures { O.failed writer.new ≡ O.failed writer.old + failed_writes result }
     ensures calls { O.called writer.new ≤ O.called writer.old + 120 }
     ensures short { length (told_of_mark mark.now passed) ≤ 120 }
 {
@@ -119,7 +119,7 @@ pub fn send_cards<O: Output>(
     ensures sent { (walk : List Visited) → AreByLine deck.now walk tallies.now
         → IsSent (O.written writer.old) (O.written writer.new) 0 result
         (flat_map (card_line deck.now walk) (cards_in deck.now)) }
-    ensures failures { O.failed writer.new ≡ O.failed writer.old + fails_by result }
+    ensures failures { O.failed writer.new ≡ O.failed writer.old + failed_writes result }
     ensures calls { O.called writer.new ≤ O.called writer.old + 480000 }
     ensures few { IfOk result (λ total. total ≤ 480000) }
 {
@@ -143,7 +143,7 @@ pub fn send_marks<O: Output>(
     ensures sent { (walk : List Visited) → ArePasses marks.now walk passed.now
         → IsSent (O.written writer.old) (O.written writer.new) sent result
         (flat_map (mark_line walk) marks.now) }
-    ensures failures { O.failed writer.new ≡ O.failed writer.old + fails_by result }
+    ensures failures { O.failed writer.new ≡ O.failed writer.old + failed_writes result }
     ensures calls { O.called writer.new ≤ O.called writer.old + 7680 }
     ensures few { IfOk result (λ total. total ≤ sent + 7680) }
 {

@@ -5,7 +5,7 @@ ghost use Rattle.drum_toml.specs.Document as document;
 ghost use Rattle.drum_toml.specs.Value.{fault_of};
 ghost use Rattle.toml.specs.View.{table_view};
 
-use super::fields::{Fields, is_among};
+use super::fields::{Fields, is_one_of};
 use super::value::{self, ValueFault};
 use drum_times::{KeyPath, NoteFault};
 use std::alloc::{AllocError, Global};
@@ -104,10 +104,10 @@ impl Faults {
         known: &[&str],
     ) -> Result<(), AllocError>
         ensures { IfOk result (λ _. Adds self.old.all.items self.new.all.items
-            (if document.is_among key.now (map (λ one. one.now) known.now) then []
+            (if document.is_one_of key.now (map (λ one. one.now) known.now) then []
             else document.unknown (fields.now.at.now ++ key.now) ∷ [])) }
     {
-        if !is_among(key, known) {
+        if !is_one_of(key, known) {
             let path = fields.path(key)?;
             self.add(NoteFault::Unknown(path))?;
         }

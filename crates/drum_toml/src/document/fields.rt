@@ -61,7 +61,7 @@ impl Fields<'_> {
             (map (λ key. key.now) known.now) (table_view self.now.table.now))) }
     {
         for (key, _) in self.table.iter() {
-            if !is_among(key.as_str(), known) {
+            if !is_one_of(key.as_str(), known) {
                 return Err(NoteFault::Unknown(self.path(key.as_str())?));
             }
         }
@@ -106,8 +106,8 @@ pub fn member<'a>(table: &'a Table, key: &str) -> Option<&'a Value>
 }
 
 /// Whether a key is one of these.
-pub fn is_among(key: &str, keys: &[&str]) -> bool
-    ensures { result ≡ document.is_among key.now (map (λ one. one.now) keys.now) }
+pub fn is_one_of(key: &str, keys: &[&str]) -> bool
+    ensures { result ≡ document.is_one_of key.now (map (λ one. one.now) keys.now) }
 {
     for one in keys {
         if *one == key {

@@ -1,6 +1,7 @@
 //! All faults of a mark of long notes, key by key.
 
-ghost use Rattle.std.specs.Prelude.{◌≡◌, ◌+◌, ◌^◌, ◌<◌, ◌++◌, ◌&&◌, not, take, codes, decimal, IfOk};
+ghost use Rattle.std.specs.Prelude.{◌≡◌, ◌+◌, ◌^◌, ◌<◌, ◌++◌, ◌&&◌, not, take, codes, decimal};
+ghost use Rattle.std.specs.Prelude.{IfOk};
 ghost use Rattle.drum_times.specs.Names.{is_name};
 ghost use Rattle.drum_core.specs.Location.{is_location};
 ghost use Rattle.drum_toml.specs.AllFaults.{Adds};

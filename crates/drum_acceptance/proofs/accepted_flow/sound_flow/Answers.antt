@@ -1,6 +1,6 @@
 use Rattle.std.proofs.Common.{sym, subst}
 use Rattle.std.proofs.Common.{List, ℕ}
-use Rattle.drum_deck.specs.Loads.{loads_in, start_in}
+use Rattle.drum_deck.specs.InDeck.{loads_in, start_in}
 use Rattle.drum_flow.specs.Flow.{deck_of, executed_in, notes_of}
 use Rattle.drum_acceptance.specs.Altering.{FlagsFixed}
 use Rattle.drum_acceptance.specs.Fixed.{AreFlagged}

@@ -1,5 +1,5 @@
 use Rattle.std.proofs.Common.{ℕ, take, Contains}
-use Rattle.drum_deck.specs.Loads.{loads_in, start_in}
+use Rattle.drum_deck.specs.InDeck.{loads_in, start_in}
 use Rattle.drum_flow.specs.Flow.{deck_of, executed_in, notes_of}
 use Rattle.drum_acceptance.specs.Altering.{AltersNone}
 use Rattle.drum_acceptance.proofs.altering.check_unaltered.Given as goal

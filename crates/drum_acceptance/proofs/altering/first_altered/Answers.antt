@@ -2,7 +2,7 @@
 -- one in the pattern at hand is the first of the location.
 use Rattle.std.proofs.Common.{Contains, List, sym, subst}
 use Rattle.drum_core.specs.declared.instruction.Instruction.{Instruction}
-use Rattle.drum_deck.specs.Loads.{loads_in, start_in}
+use Rattle.drum_deck.specs.InDeck.{loads_in, start_in}
 use Rattle.drum_times.specs.Allowed.{allowed}
 use Rattle.drum_flow.specs.Flow.{deck_of, notes_of}
 use Rattle.drum_flow.specs.Accepted as said

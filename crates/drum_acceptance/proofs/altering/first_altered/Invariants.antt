@@ -1,6 +1,6 @@
 use Rattle.std.proofs.Common.{◌≡◌, ◌++◌}
 use Rattle.std.specs.Prelude.{flat_map}
-use Rattle.drum_deck.specs.Loads.{loads_in, start_in}
+use Rattle.drum_deck.specs.InDeck.{loads_in, start_in}
 use Rattle.drum_times.specs.Allowed.{allowed, matching}
 use Rattle.drum_flow.specs.Flow.{deck_of, notes_of}
 use Rattle.drum_flow.specs.Patterns.{patterns_left}

@@ -5,7 +5,7 @@ use Rattle.std.proofs.Common.{Bool}
 use Rattle.std.specs.Prelude.{IsSome}
 use Rattle.std.proofs.lemmas.Bool.{cases_eq}
 use Rattle.drum_core.specs.declared.location.Location.{Location}
-use Rattle.drum_deck.specs.Loads.{loads_in, start_in}
+use Rattle.drum_deck.specs.InDeck.{loads_in, start_in}
 use Rattle.drum_flow.specs.Flow.{deck_of, notes_of}
 use Rattle.drum_flow.specs.Accepted.{IsLowestAltered}
 use Rattle.drum_acceptance.specs.Fixed.{IsFlagged}

@@ -1,5 +1,5 @@
 use Rattle.std.proofs.Common.{ℕ, ◌<◌, ◌≤◌}
-use Rattle.drum_deck.specs.Loads.{loads_in, start_in}
+use Rattle.drum_deck.specs.InDeck.{loads_in, start_in}
 use Rattle.drum_flow.specs.Flow.{deck_of, notes_of}
 use Rattle.drum_flow.specs.Accepted.{IsFixed}
 use Rattle.drum_acceptance.proofs.altering.lowest_altered.Given as goal

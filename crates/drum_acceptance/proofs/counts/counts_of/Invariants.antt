@@ -1,11 +1,11 @@
 use Rattle.std.proofs.Common.{◌≡◌, ◌*◌, ◌^◌, ◌≤◌, drop}
 use Rattle.drum_flow.specs.Accepted as said
-use Rattle.drum_flow.specs.Accepted.{told}
+use Rattle.drum_flow.specs.Accepted.{capped}
 use Rattle.drum_acceptance.proofs.counts.counts_of.Given as goal
 
 -- the product so far, and the counts of the marks that are left
 abbrev pub invariant-loop-mark : goal.invariant-loop-mark
 invariant-loop-mark l = record {
-  all : told (l.counts * said.counts_of (drop l.mark-index l.marks)) ≡ told (said.counts_of l.marks);
+  all : capped (l.counts * said.counts_of (drop l.mark-index l.marks)) ≡ capped (said.counts_of l.marks);
   low : l.counts ≤ 2 ^ 127;
 }

@@ -1,4 +1,4 @@
-use Rattle.drum_deck.specs.Loads.{loads_in}
+use Rattle.drum_deck.specs.InDeck.{loads_in}
 use Rattle.drum_flow.specs.Flow.{deck_of, nodes_of, notes_of}
 use Rattle.drum_acceptance.proofs.FreeRows.{rows_within}
 use Rattle.drum_acceptance.proofs.free.free_graph.Goals as goal

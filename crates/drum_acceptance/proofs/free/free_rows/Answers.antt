@@ -4,7 +4,7 @@ use Rattle.std.specs.Prelude.{Vec}
 use Rattle.std.specs.declared.alloc.Global.{Global}
 use Rattle.std.proofs.lemmas.List.{length_push}
 use Rattle.std.proofs.lemmas.Option.{slice_get_within}
-use Rattle.drum_deck.specs.Loads.{loads_in}
+use Rattle.drum_deck.specs.InDeck.{loads_in}
 use Rattle.drum_order.specs.Rows.{targets_in}
 use Rattle.drum_flow.specs.Flow.{deck_of, nodes_of, notes_of}
 use Rattle.drum_acceptance.specs.Free.{IsFreeRow}

@@ -1,7 +1,7 @@
 -- Of free_order: an order of the graph is one of the nodes; and without calls their locations are an
 -- order of the executed ones.
 use Rattle.std.proofs.Common.{ℕ, List, map, Contains, sym, ap, ◌∙◌, subst, arith}
-use Rattle.drum_deck.specs.Loads.{loads_in, start_in}
+use Rattle.drum_deck.specs.InDeck.{loads_in, start_in}
 use Rattle.drum_order.specs.Graph.{row, size, IsTopologicalOrder}
 use Rattle.drum_flow.specs.Flow.{deck_of, executed_in, nodes_of, notes_of}
 use Rattle.drum_flow.specs.Hops.{Node}

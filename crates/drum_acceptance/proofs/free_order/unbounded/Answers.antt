@@ -3,10 +3,10 @@
 use Rattle.std.proofs.Common.{ℕ, ◌<◌, List, length, Contains, ap, subst, arith}
 use Rattle.std.proofs.lemmas.List.{length-map}
 use Rattle.drum_core.specs.declared.location.Location.{Location}
-use Rattle.drum_deck.specs.Loads.{loads_in, start_in}
+use Rattle.drum_deck.specs.InDeck.{loads_in, start_in}
 use Rattle.drum_order.specs.Graph.{row, size}
 use Rattle.drum_flow.specs.Flow.{deck_of, nodes_of, notes_of}
-use Rattle.drum_flow.specs.Held.{node_of}
+use Rattle.drum_flow.specs.InNodes.{node_of}
 use Rattle.drum_flow.specs.Hops.{Node}
 use Rattle.drum_flow.specs.Turned.{IsTurned}
 use Rattle.drum_flow.proofs.Founds.{few_below, numbers}

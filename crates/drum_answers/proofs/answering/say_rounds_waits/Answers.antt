@@ -1,18 +1,18 @@
 use Rattle.std.proofs.Common.{List, ◌++◌, ◌∙◌, ℕ, flat_map, inr, refl, ap, subst}
 use Rattle.drum_times.specs.Entries.{entry_in}
-use Rattle.drum_ceiling.specs.CeilingOf.{total_of}
 use Rattle.drum_rounds.specs.InRounds as walks
+use Rattle.drum_ceiling.specs.CeilingOf.{total_of}
 use Rattle.drum_lines.specs.declared.status.Status.TheVariants.{Done}
 use Rattle.drum_lines.specs.Output.{GetsResult, device}
+use Rattle.drum_lines.proofs.NoLine.{no_line}
+use Rattle.drum_hop_lines.specs.declared.waited.Waited.{Waited}
+use Rattle.drum_hop_lines.specs.KindsOf.{waited_line}
+use Rattle.drum_hop_lines.specs.WaitsText.{wait_line}
 use Rattle.drum_bracket.specs.CeilingText.{total_lines}
-use Rattle.drum_answers.proofs.Early.{soon_over}
 use Rattle.drum_bracket.proofs.RowRoom.{hops_seen, spelled_out}
 use Rattle.drum_documents.specs.Documents.{setting_of}
 use Rattle.drum_answers.specs.Says.{rounds_waits_reply}
-use Rattle.drum_lines.proofs.NoLine.{no_line}
-use Rattle.drum_listing.specs.declared.waits.waited.Waited.{Waited}
-use Rattle.drum_listing.specs.WaitsOf.{waited_line}
-use Rattle.drum_listing.specs.WaitsText.{wait_line}
+use Rattle.drum_answers.proofs.Early.{soon_over}
 use Rattle.drum_answers.proofs.answering.say_rounds_waits.Goals as goal
 
 pub of-requires-clause-right : goal.of-requires-clause-right

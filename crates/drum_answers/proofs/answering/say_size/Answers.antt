@@ -1,5 +1,5 @@
 use Rattle.std.proofs.Common.{◌≡◌, ℕ, List, length, ap, ◌∙◌, refl, subst}
-use Rattle.drum_deck.specs.Loads.{loads_in}
+use Rattle.drum_deck.specs.InDeck.{loads_in}
 use Rattle.drum_bound.specs.AnalysisOf.{rows_of}
 use Rattle.drum_flow.specs.Accepted.{counts_of}
 use Rattle.drum_lines.specs.declared.status.Status.TheVariants.{Done}

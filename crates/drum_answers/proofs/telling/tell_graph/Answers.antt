@@ -3,14 +3,14 @@ use Rattle.drum_graph.specs.GraphOf.{loops_in, nodes_in, start_of}
 use Rattle.drum_graph.specs.GraphText.{graph_text}
 use Rattle.drum_lines.specs.declared.failed_write.WriteFault.{WriteFault}
 use Rattle.drum_lines.specs.declared.status.Status.{Status}
-use Rattle.drum_lines.specs.Sent.{IsWritten, fails_by}
+use Rattle.drum_lines.specs.Sent.{IsWritten, failed_writes}
 use Rattle.drum_times.specs.declared.notes.mark.Mark.{Mark}
 use Rattle.drum_lines.specs.Output.{GetsResult, device, ended_with}
 use Rattle.drum_answers.proofs.telling.tell_graph.Goals as goal
 
 -- what was written is a result, where the program ends as it says then
 gets_result : {A : Type 0} (old new : Option (List ℕ)) (failures failed : ℕ) (result : Result A WriteFault)
-    (text : List ℕ) (done status : Status) → IsWritten old new result text → failed ≡ failures + fails_by result
+    (text : List ℕ) (done status : Status) → IsWritten old new result text → failed ≡ failures + failed_writes result
     → status ≡ ended_with result done → GetsResult (device old failures) (device new failed) text done status
 gets_result old new failures failed (Ok all) text done status written counted ends =
     inl ((written, omega (arith, counted)), ends)

@@ -2,7 +2,7 @@
 -- walks is right of the deck's. A run that keeps to the notes takes the hops of such a walk; so it
 -- passes neither the bound nor an entry.
 use Rattle.std.proofs.Common.{◌≡◌, length, sym, ◌∙◌, subst, arith}
-use Rattle.drum_deck.specs.Loads.{loads_in, start_in}
+use Rattle.drum_deck.specs.InDeck.{loads_in, start_in}
 use Rattle.drum_order.specs.Graph.{AreDifferent}
 use Rattle.drum_flow.specs.Accepted.{IsAccepted}
 use Rattle.drum_flow.specs.declared.flow_graph.Flow.{Flow}

@@ -11,7 +11,7 @@ use Rattle.drum_bound.specs.declared.analysis.Analysis.{Analysis}
 use Rattle.drum_bound.specs.declared.cells.Cells.{Cells}
 use Rattle.drum_bound.specs.declared.keys.Keys.{Keys}
 use Rattle.drum_bound.specs.AnalysisOf.{ArePasses}
-use Rattle.drum_bound.specs.Held.{kept_in}
+use Rattle.drum_bound.specs.InCells.{kept_in}
 use Rattle.drum_bound.specs.Keys.{keys_of}
 use Rattle.drum_bound.specs.KeysOf.{marks_in, setting_of}
 use Rattle.drum_bound.specs.ScanOf.{AreCells}

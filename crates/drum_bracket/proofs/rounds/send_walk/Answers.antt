@@ -8,7 +8,7 @@ use Rattle.drum_lines.specs.Sent.{IsSent}
 use Rattle.drum_bracket.specs.declared.progress.Progress.{Progress}
 use Rattle.drum_bracket.specs.declared.teller.Teller.{Teller}
 use Rattle.drum_bracket.specs.ProgressOf.{held_by}
-use Rattle.drum_bracket.specs.RoundsText.{joined, Told}
+use Rattle.drum_bracket.specs.RoundsText.{joined, PartsSoFar}
 use Rattle.drum_bracket.specs.TellerOf.{pieces_in}
 use Rattle.drum_bracket.proofs.Starts.{all_cut, all_sent, all_told, cost_few, may_start, sent_few, whatever}
 use Rattle.drum_bracket.proofs.rounds.send_walk.Goals as goal
@@ -59,7 +59,7 @@ returns-in_err-named-clause-sent g c =
     let fault = c.in_err-named.field-0.0 in
     let after = held_by c.named.new.progress in
     let p = err_from_is_err_and c.from_residual.result c.from_residual.ensures.1 in
-    rw (p.1, p.2) (subst (λ (x : List (List ℕ) × Told). IsSent was now 0 (Err fault) (joined x.0)) whole
+    rw (p.1, p.2) (subst (λ (x : List (List ℕ) × PartsSoFar). IsSent was now 0 (Err fault) (joined x.0)) whole
     (all_cut was now fault after _ (held_by old) c.new.ensures.empty c.in_err-named.ensures.lines))
 
 pub send-requires-clause-called : goal.send-requires-clause-called
@@ -141,7 +141,7 @@ returns-clause-sent g c =
     let new = c.named.new.progress in
     let page : IsSent mid now new.sent c.send.result (held_by new) =
     subst (IsSent mid now new.sent c.send.result) (append-nil c.bytes.result.now ∙ c.bytes.ensures) c.send.ensures.sent in
-    subst (λ (x : List (List ℕ) × Told). IsSent was now 0 c.send.result (joined x.0)) whole
+    subst (λ (x : List (List ℕ) × PartsSoFar). IsSent was now 0 c.send.result (joined x.0)) whole
     (all_sent was mid now new.sent c.send.result (held_by new) (held_by old) _ c.new.ensures.empty
     c.in_ok-named.ensures.lines page)
 

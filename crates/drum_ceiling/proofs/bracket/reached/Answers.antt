@@ -1,6 +1,6 @@
 -- Of reached: the executed locations of an accepted flow are all that are found.
 use Rattle.std.proofs.Common.{sym}
-use Rattle.drum_deck.specs.Loads.{loads_in, start_in}
+use Rattle.drum_deck.specs.InDeck.{loads_in, start_in}
 use Rattle.drum_flow.specs.Flow.{deck_of, executed_in, notes_of, AreFound}
 use Rattle.drum_flow.proofs.Orders.{order_found}
 use Rattle.drum_acceptance.proofs.Acceptances.{moved}

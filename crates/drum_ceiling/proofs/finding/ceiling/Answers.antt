@@ -7,7 +7,7 @@ use Rattle.drum_times.specs.Allowed.{Notes}
 use Rattle.drum_times.specs.declared.notes.mark.Mark.{Mark}
 use Rattle.drum_times.specs.declared.times.Times.{Times}
 use Rattle.drum_machine.specs.Calls.{none_open}
-use Rattle.drum_flow.specs.Accepted.{product_of, told, IsAdmitted}
+use Rattle.drum_flow.specs.Accepted.{product_of, capped, IsAdmitted}
 use Rattle.drum_flow.specs.Hops.{Node}
 use Rattle.drum_flow.specs.Flow.{deck_of, nodes_of, notes_of, executed_in}
 use Rattle.drum_flow.specs.SettingOf.{setting}
@@ -70,8 +70,8 @@ returns-clause-refused c =
     (order_found g.loads notes g.start executed admitted.order).all g.start
     (none_open notes.calls, first_reached g.loads notes g.start) in
     let some : 1 ≤ length executed = omega (arith, there.1) in
-    let product : c.product_of_flow.result ≡ told (product_of executed notes.marks) =
-    c.product_of_flow.ensures ∙ ap (λ (ms : List Mark). told (product_of executed ms)) c.marks-marks.ensures.all in (
+    let product : c.product_of_flow.result ≡ capped (product_of executed notes.marks) =
+    c.product_of_flow.ensures ∙ ap (λ (ms : List Mark). capped (product_of executed ms)) c.marks-marks.ensures.all in (
       (
         admitted_sound deck notes executed admitted,
         omega (

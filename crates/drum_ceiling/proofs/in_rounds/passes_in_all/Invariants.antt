@@ -1,12 +1,12 @@
 use Rattle.std.proofs.Common.{◌≡◌, ◌+◌, ◌≤◌, ◌^◌, drop}
-use Rattle.drum_flow.specs.Accepted.{told}
+use Rattle.drum_flow.specs.Accepted.{capped}
 use Rattle.drum_ceiling.specs.InRounds as said
 use Rattle.drum_ceiling.proofs.in_rounds.passes_in_all.Given as goal
 
 -- the passes so far, and those of the marks that are left
 abbrev pub invariant-loop-index : goal.invariant-loop-index
 invariant-loop-index l = record {
-  all : told (l.passes + said.passes_in_all (drop l.index l.marks) (drop l.index l.rounds))
-      ≡ told (said.passes_in_all l.marks l.rounds);
+  all : capped (l.passes + said.passes_in_all (drop l.index l.marks) (drop l.index l.rounds))
+      ≡ capped (said.passes_in_all l.marks l.rounds);
   low : l.passes ≤ 2 ^ 127;
 }

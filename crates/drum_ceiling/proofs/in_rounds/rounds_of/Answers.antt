@@ -1,5 +1,5 @@
 use Rattle.std.proofs.Common.{◌≡◌, ℕ, ◌+◌, ◌-◌, ◌<◌, List, length, ap, ◌∙◌, arith}
-use Rattle.drum_flow.specs.Accepted.{told}
+use Rattle.drum_flow.specs.Accepted.{capped}
 use Rattle.std.proofs.lemmas.List.{length-set}
 use Rattle.drum_ceiling.specs.InRounds.{passes_inside}
 use Rattle.drum_ceiling.proofs.RoundSums.{one_more, told_one}
@@ -11,10 +11,10 @@ loop-place-preserved c =
     let rounds = c.loop-place.rounds.items in
     let index : ℕ = length marks - 1 - c.loop-place.place in
     let below : index < length marks = omega (arith, c.loop-place-test.true) in
-    let own : c.sum.result ≡ told (1 + passes_inside marks index 0 marks rounds) =
+    let own : c.sum.result ≡ capped (1 + passes_inside marks index 0 marks rounds) =
     c.sum.ensures
     ∙ told_one (passes_inside marks index 0 marks c.deref.result.now) c.inside_of.result c.inside_of.ensures
-    ∙ ap (λ (all : List ℕ). told (1 + passes_inside marks index 0 marks all)) c.deref.ensures.value in
+    ∙ ap (λ (all : List ℕ). capped (1 + passes_inside marks index 0 marks all)) c.deref.ensures.value in
     record {
       long = length-set rounds index c.sum.result ∙ c.loop-place.invariant.long;
       each = λ k within from. one_more marks rounds index c.sum.result c.requires c.loop-place.invariant.long below own

@@ -1,6 +1,6 @@
 use Rattle.std.proofs.Common.{◌≡◌, ℕ, ◌+◌, ◌≤◌, ◌<◌, length}
 use Rattle.std.specs.Prelude.{slice_index}
-use Rattle.drum_flow.specs.Accepted.{told}
+use Rattle.drum_flow.specs.Accepted.{capped}
 use Rattle.drum_ceiling.specs.InRounds.{passes_inside}
 use Rattle.drum_ceiling.proofs.in_rounds.rounds_of.Given as goal
 
@@ -9,5 +9,5 @@ abbrev pub invariant-loop-place : goal.invariant-loop-place
 invariant-loop-place l = record {
   long : length l.rounds.items ≡ length l.marks;
   each : (k : ℕ) → k < length l.marks → length l.marks ≤ k + l.place
-      → slice_index l.rounds.items k ≡ told (1 + passes_inside l.marks k 0 l.marks l.rounds.items);
+      → slice_index l.rounds.items k ≡ capped (1 + passes_inside l.marks k 0 l.marks l.rounds.items);
 }

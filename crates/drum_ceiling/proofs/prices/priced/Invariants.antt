@@ -1,10 +1,10 @@
 use Rattle.std.proofs.Common.{◌≡◌, ◌++◌, drop}
-use Rattle.drum_flow.specs.Accepted.{told}
+use Rattle.drum_flow.specs.Accepted.{capped}
 use Rattle.drum_ceiling.specs.InRounds as said
 use Rattle.drum_ceiling.proofs.prices.priced.Given as goal
 
 -- the prices so far, and those of the marks that are left
 abbrev pub invariant-loop-index : goal.invariant-loop-index
 invariant-loop-index l =
-    l.prices.items ++ said.priced told l.unit (drop l.index l.marks) (drop l.index l.rounds)
-    ≡ said.priced told l.unit l.marks l.rounds
+    l.prices.items ++ said.priced capped l.unit (drop l.index l.marks) (drop l.index l.rounds)
+    ≡ said.priced capped l.unit l.marks l.rounds

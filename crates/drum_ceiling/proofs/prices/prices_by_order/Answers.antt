@@ -4,12 +4,12 @@ use Rattle.std.proofs.Common.{◌≡◌, ◌≢◌, ℕ, ◌+◌, ◌*◌, ◌<�
 use Rattle.std.specs.Prelude.{slice_get, Contains}
 use Rattle.std.proofs.lemmas.Bool.Decides.{eqb_tells}
 use Rattle.std.proofs.lemmas.Option.{same_Some}
-use Rattle.drum_deck.specs.Loads.{loads_in, start_in}
+use Rattle.drum_deck.specs.InDeck.{loads_in, start_in}
 use Rattle.drum_times.specs.declared.notes.mark.Mark.{Mark}
 use Rattle.drum_times.specs.Allowed.{Notes, AreSound}
 use Rattle.drum_order.specs.Graph.{height, AreDifferent}
 use Rattle.drum_order.proofs.Lists.{contains_here, contains_there}
-use Rattle.drum_flow.specs.Accepted.{told}
+use Rattle.drum_flow.specs.Accepted.{capped}
 use Rattle.drum_flow.specs.Executed.{same_node}
 use Rattle.drum_flow.specs.Flow.{deck_of, executed_in, nodes_of, notes_of}
 use Rattle.drum_flow.specs.Hops.{first_node, Node}
@@ -88,17 +88,17 @@ returns c times takes =
     c.height_of-height.ensures.value ∙ ap (λ (ks : List ℕ). height ks 0) c.nodes.ensures
     ∙ high_at nodes (indices_in_order accepted) first
     (reached_different (loads_in deck) notes (start_in deck) nodes c.requires.nodes) c.requires.within at in
-    let made : c.in_ok-priced.field-0.items ≡ priced told (words * c.args.longest) notes.marks size.rounds.items =
-    c.in_ok-priced.ensures ∙ ap (λ (n : ℕ). priced told n c.marks-marks.result.now c.deref.result.now) sized.unit
-    ∙ ap (λ (all : List ℕ). priced told (words * c.args.longest) c.marks-marks.result.now all) c.deref.ensures.value
-    ∙ ap (λ (ms : List Mark). priced told (words * c.args.longest) ms size.rounds.items) marks in
+    let made : c.in_ok-priced.field-0.items ≡ priced capped (words * c.args.longest) notes.marks size.rounds.items =
+    c.in_ok-priced.ensures ∙ ap (λ (n : ℕ). priced capped n c.marks-marks.result.now c.deref.result.now) sized.unit
+    ∙ ap (λ (all : List ℕ). priced capped (words * c.args.longest) c.marks-marks.result.now all) c.deref.ensures.value
+    ∙ ap (λ (ms : List Mark). priced capped (words * c.args.longest) ms size.rounds.items) marks in
     by_order g nodes (nodes_in_order accepted) proper c.requires.nodes c.requires.order c.args.longest
     (subst (λ (places : List ℕ). TakesAtMost g places c.args.longest)
     (executed_places (loads_in deck) notes (start_in deck) (executed_in flow) nodes c.requires.admitted c.requires.nodes)
     takes)
-    size.rounds.items sized.rounds size.passes (told (1 + size.passes)) size.whole sized.passes refl
-    (sized.whole ∙ ap (λ (n : ℕ). told (n * told (1 + size.passes))) sized.unit) c.if-size-ge-LARGEST.false
+    size.rounds.items sized.rounds size.passes (capped (1 + size.passes)) size.whole sized.passes refl
+    (sized.whole ∙ ap (λ (n : ℕ). capped (n * capped (1 + size.passes))) sized.unit) c.if-size-ge-LARGEST.false
     c.in_ok-priced.field-0.items (c.height_of-height.result * c.from.result + c.product.result) c.product.result made
-    (c.product.ensures ∙ ap (λ (n : ℕ). told (n * size.passes)) sized.unit)
+    (c.product.ensures ∙ ap (λ (n : ℕ). capped (n * size.passes)) sized.unit)
     (ap (λ (n : ℕ). c.height_of-height.result * n + c.product.result) c.from.ensures
     ∙ ap (λ (n : ℕ). n * c.args.longest + c.product.result) tall)

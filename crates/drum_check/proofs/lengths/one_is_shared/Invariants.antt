@@ -1,7 +1,7 @@
 use Rattle.std.proofs.Common.{◌≡◌, map, drop}
 use Rattle.std.specs.List.{list_any}
-use Rattle.drum_check.specs.FindingsOf.{seen}
-use Rattle.drum_check.specs.Shared.{asks_to_share}
+use Rattle.drum_finding.specs.FindingOf.{seen}
+use Rattle.drum_finding.specs.Shared.{asks_to_share}
 use Rattle.drum_check.proofs.lengths.one_is_shared.Given as goal
 
 -- none of the findings so far asks to share a mark

@@ -7,8 +7,9 @@ use Rattle.std.proofs.lemmas.List.Folds.{flat_map-map}
 use Rattle.std.proofs.lemmas.Result.{err_from_is_err_and}
 use Rattle.drum_lines.specs.Sent.{IsSent}
 use Rattle.drum_lines.proofs.Sending.{sent_cut}
-use Rattle.drum_check.specs.declared.finding.Finding.{Finding}
-use Rattle.drum_check.specs.FindingsOf.{found_in, seen}
+use Rattle.drum_finding.specs.declared.finding.Finding.{Finding}
+use Rattle.drum_finding.specs.FindingOf.{seen}
+use Rattle.drum_check.specs.FindingsOf.{found_in}
 use Rattle.drum_check.specs.FindingsText.{finding_text, findings_text}
 use Rattle.drum_check.proofs.listing.send_findings.Goals as goal
 

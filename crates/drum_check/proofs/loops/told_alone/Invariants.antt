@@ -1,9 +1,9 @@
 use Rattle.std.proofs.Common.{◌≡◌, map, take}
 use Rattle.drum_times.specs.declared.notes.edge.Edge.{Edge}
 use Rattle.drum_times.specs.EdgeOf.{edge_of}
-use Rattle.drum_check.specs.Findings.{closes}
-use Rattle.drum_check.specs.declared.within.Within.TheVariants as within
-use Rattle.drum_check.specs.FindingsOf.{seen}
+use Rattle.drum_finding.specs.Finding.{closes}
+use Rattle.drum_finding.specs.declared.within.Within.TheVariants as within
+use Rattle.drum_finding.specs.FindingOf.{seen}
 use Rattle.drum_check.proofs.loops.told_alone.Given as goal
 
 -- the loops of the edges so far are listed

@@ -2,10 +2,11 @@
 use Rattle.std.proofs.Common.{ℕ, List, map, subst}
 use Rattle.std.specs.Prelude.{IsPermutation}
 use Rattle.std.proofs.lemmas.Result.{IfOk-weaker}
-use Rattle.drum_flow.specs.declared.flow_graph.Flow.{Flow}
 use Rattle.drum_times.specs.declared.notes.edge.Edge.{Edge}
 use Rattle.drum_times.specs.EdgeOf.{edge_of}
-use Rattle.drum_check.specs.FindingsOf.{seen, IsInsideIn}
+use Rattle.drum_flow.specs.declared.flow_graph.Flow.{Flow}
+use Rattle.drum_finding.specs.FindingOf.{seen}
+use Rattle.drum_check.specs.FindingsOf.{IsInsideIn}
 use Rattle.drum_check.specs.Insides.{AreFewestFirst, AreToldApart}
 use Rattle.drum_check.proofs.loops.told_in_order.Goals as goal
 

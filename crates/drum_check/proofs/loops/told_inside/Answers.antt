@@ -5,10 +5,13 @@ use Rattle.std.proofs.lemmas.Grind.{flat_map-append}
 use Rattle.std.proofs.lemmas.List.{append-nil, map_push}
 use Rattle.drum_core.specs.declared.location.Location.{Location}
 use Rattle.drum_times.specs.EdgeOf.{edge_of}
-use Rattle.drum_check.specs.declared.within.Within.{Within}
-use Rattle.drum_check.specs.Finding.{closes}
-use Rattle.drum_check.specs.FindingsOf.{seen, IsInsideIn}
-use Rattle.drum_check.specs.Insides.{mark_on, marks_of, new_mark, new_marks, AreToldInside, IsTold, IsToldBehind}
+use Rattle.drum_finding.specs.declared.within.Within.{Within}
+use Rattle.drum_finding.specs.Finding.{closes}
+use Rattle.drum_finding.specs.FindingOf.{seen}
+use Rattle.drum_finding.specs.Edges.{marks_of}
+use Rattle.drum_check.specs.FindingsOf.{IsInsideIn}
+use Rattle.drum_check.specs.Insides.{mark_on, new_mark, new_marks, AreToldInside, IsTold}
+use Rattle.drum_check.specs.Insides.{IsToldBehind}
 use Rattle.drum_check.proofs.Numbered.{edges_more}
 use Rattle.drum_check.proofs.Tellings.{told_more}
 use Rattle.drum_check.proofs.loops.told_inside.Goals as goal

@@ -1,7 +1,9 @@
 use Rattle.std.proofs.Common.{◌≡◌, ◌++◌, [], map, take}
 use Rattle.drum_times.specs.EdgeOf.{edge_of}
-use Rattle.drum_check.specs.FindingsOf.{seen, IsInsideIn}
-use Rattle.drum_check.specs.Insides.{marks_of, new_marks, AreToldInside, IsToldBehind}
+use Rattle.drum_finding.specs.FindingOf.{seen}
+use Rattle.drum_finding.specs.Edges.{marks_of}
+use Rattle.drum_check.specs.FindingsOf.{IsInsideIn}
+use Rattle.drum_check.specs.Insides.{new_marks, AreToldInside, IsToldBehind}
 use Rattle.drum_check.proofs.loops.told_inside.Given as goal
 
 -- the loops of the edges so far are listed, and the marks that come with these stand behind the notes'

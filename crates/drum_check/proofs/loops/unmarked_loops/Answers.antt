@@ -7,15 +7,17 @@ use Rattle.std.proofs.lemmas.List.{length-map}
 use Rattle.std.proofs.lemmas.List.Sorted.{length_permutation}
 use Rattle.std.proofs.lemmas.Result.{IfOk-weaker}
 use Rattle.std.proofs.lemmas.Simd.{map-map}
-use Rattle.drum_deck.specs.Loads.{loads_in, start_in}
-use Rattle.drum_flow.specs.Flow.{nodes_of}
+use Rattle.drum_deck.specs.InDeck.{loads_in, start_in}
 use Rattle.drum_times.specs.declared.notes.edge.Edge.{Edge}
 use Rattle.drum_times.specs.EdgeOf.{edge_of}
+use Rattle.drum_flow.specs.Flow.{nodes_of}
 use Rattle.drum_loops.specs.Loops.{AreClosing}
-use Rattle.drum_check.specs.Finding.{Finding, closes}
-use Rattle.drum_check.specs.FindingsOf.{seen, IsInsideIn}
-use Rattle.drum_check.specs.declared.within.Within.TheVariants as within
-use Rattle.drum_check.specs.Insides.{marked_edges, AreFewestFirst, AreLoops, AreToldApart}
+use Rattle.drum_finding.specs.Finding.{Finding, closes}
+use Rattle.drum_finding.specs.FindingOf.{seen}
+use Rattle.drum_finding.specs.declared.within.Within.TheVariants as within
+use Rattle.drum_finding.specs.Edges.{marked_edges}
+use Rattle.drum_check.specs.FindingsOf.{IsInsideIn}
+use Rattle.drum_check.specs.Insides.{AreFewestFirst, AreLoops, AreToldApart}
 use Rattle.drum_check.proofs.Rearranged.{closing_moved}
 use Rattle.drum_check.proofs.loops.unmarked_loops.Goals as goal
 

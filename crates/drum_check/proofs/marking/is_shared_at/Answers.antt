@@ -2,10 +2,10 @@
 use Rattle.std.proofs.Common.{◌≡◌, ℕ, Bool, true, false, ◌||◌, List, [], ◌∷◌, map, refl, ap, sym, ◌∙◌}
 use Rattle.std.specs.Prelude.{is_some, ◌==◌, ◌&&◌, if◌then◌else◌, Some, None}
 use Rattle.std.specs.List.{list_any}
-use Rattle.drum_check.specs.Finding.{Finding, not_loaded, not_in_profile, alters, too_large, closes, unused_mark}
-use Rattle.drum_check.specs.Finding.{unused_list, unused_call, idle, inside}
-use Rattle.drum_check.specs.FindingsOf.{seen}
-use Rattle.drum_check.specs.Shared.{asks_to_share, shared_onto}
+use Rattle.drum_finding.specs.Finding.{Finding, not_loaded, not_in_profile, alters, too_large, closes, unused_mark}
+use Rattle.drum_finding.specs.Finding.{unused_list, unused_call, idle, inside}
+use Rattle.drum_finding.specs.FindingOf.{seen}
+use Rattle.drum_finding.specs.Shared.{asks_to_share, shared_onto}
 use Rattle.drum_check.proofs.marking.is_shared_at.Goals as goal
 
 one_alike : (head : ℕ) (finding : Finding) → asks_to_share finding ≡ false → is_some (shared_onto head finding) ≡ false

@@ -1,8 +1,8 @@
 use Rattle.std.proofs.Common.{◌≡◌, map, drop}
 use Rattle.std.specs.Prelude.{is_some}
 use Rattle.std.specs.List.{list_any}
-use Rattle.drum_check.specs.FindingsOf.{seen}
-use Rattle.drum_check.specs.Shared.{shared_onto}
+use Rattle.drum_finding.specs.FindingOf.{seen}
+use Rattle.drum_finding.specs.Shared.{shared_onto}
 use Rattle.drum_check.proofs.marking.is_shared_at.Given as goal
 
 -- none of the findings so far shares the mark

@@ -1,7 +1,7 @@
 use Rattle.std.proofs.Common.{◌≡◌, ◌+◌, ◌*◌, ◌≤◌, flat_map, take, Ok}
 use Rattle.drum_lines.specs.Sent.{IsSent}
-use Rattle.drum_check.specs.declared.finding.Finding.{Finding}
-use Rattle.drum_check.specs.FindingsOf.{seen}
+use Rattle.drum_finding.specs.declared.finding.Finding.{Finding}
+use Rattle.drum_finding.specs.FindingOf.{seen}
 use Rattle.drum_check.specs.Lacking.{further_text}
 use Rattle.drum_check.proofs.marking.send_all_further.Given as goal
 

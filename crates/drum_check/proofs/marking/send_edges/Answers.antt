@@ -2,12 +2,13 @@
 use Rattle.std.proofs.Common.{◌≡◌, ℕ, Bool, true, false, List, map, cond, ap, sym, ◌∙◌, subst}
 use Rattle.std.specs.Prelude.{is_some}
 use Rattle.std.specs.List.{list_any}
-use Rattle.drum_lines.specs.Sent.{IsSent}
 use Rattle.drum_times.specs.EdgeOf.{edge_of}
-use Rattle.drum_check.specs.Finding.{Finding}
-use Rattle.drum_check.specs.FindingsOf.{found_in, seen}
+use Rattle.drum_lines.specs.Sent.{IsSent}
+use Rattle.drum_finding.specs.Finding.{Finding}
+use Rattle.drum_finding.specs.FindingOf.{seen}
+use Rattle.drum_finding.specs.Shared.{shared_onto}
+use Rattle.drum_check.specs.FindingsOf.{found_in}
 use Rattle.drum_check.specs.Lacking.{alone_text, several_text}
-use Rattle.drum_check.specs.Shared.{shared_onto}
 use Rattle.drum_check.proofs.marking.send_edges.Goals as goal
 
 shares : (held findings : List Finding) (head : ℕ) (answer told : Bool) → held ≡ findings

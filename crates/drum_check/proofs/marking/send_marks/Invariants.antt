@@ -1,7 +1,8 @@
 use Rattle.std.proofs.Common.{◌≡◌, ◌+◌, ◌*◌, ◌≤◌, flat_map, take, Ok}
 use Rattle.drum_lines.specs.Sent.{IsSent}
-use Rattle.drum_check.specs.declared.finding.Finding.{Finding}
-use Rattle.drum_check.specs.FindingsOf.{found_in, seen}
+use Rattle.drum_finding.specs.declared.finding.Finding.{Finding}
+use Rattle.drum_finding.specs.FindingOf.{seen}
+use Rattle.drum_check.specs.FindingsOf.{found_in}
 use Rattle.drum_check.specs.Lacking.{mark_for}
 use Rattle.drum_check.proofs.marking.send_marks.Given as goal
 

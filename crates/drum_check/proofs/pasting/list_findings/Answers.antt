@@ -2,9 +2,9 @@
 -- notes, the marks and the lists. Where a write fails, a prefix of that text has gone out.
 use Rattle.std.proofs.Common.{List, ℕ, flat_map, Ok, Err, subst}
 use Rattle.std.proofs.lemmas.Result.{err_from_is_err_and}
-use Rattle.drum_lines.proofs.Sending.{all_four, cut_second, cut_third, written_cut, written_whole}
 use Rattle.drum_lines.specs.Sent.{IsSent}
-use Rattle.drum_check.specs.declared.kept.Kept.{Kept}
+use Rattle.drum_lines.proofs.Sending.{all_four, cut_second, cut_third, written_cut, written_whole}
+use Rattle.drum_finding.specs.declared.unchanged_parts.UnchangedParts.{UnchangedParts}
 use Rattle.drum_check.specs.FindingsOf.{found_in, is_long_in}
 use Rattle.drum_check.specs.FindingsText.{findings_text}
 use Rattle.drum_check.specs.Lacking.{check_text, list_text, long_text, marks_text, words_altered}
@@ -50,7 +50,7 @@ returns-in_err-send_lists-clause-written g c =
     let p = err_from_is_err_and c.from_residual-in_err-send_lists.result
     c.from_residual-in_err-send_lists.ensures.1 in
     let last : IsSent third new most (Err fault) (flat_map list_text (words_altered found)) =
-    subst (λ (words : List (ℕ × Kept)). IsSent third new most (Err fault) (flat_map list_text words)) c.requires.right
+    subst (λ (words : List (ℕ × UnchangedParts)). IsSent third new most (Err fault) (flat_map list_text words)) c.requires.right
     c.in_err-send_lists.ensures.sent in
     rw (p.1, p.2) (written_cut old new fault (check_text long found)
     (all_four old new first second third c.in_ok-sent.sent c.in_ok-sent-2.sent most (Err fault) (findings_text found)
@@ -69,7 +69,7 @@ returns-clause-written g c =
     let most = c.in_ok-sent-3.sent in
     let total = c.in_ok-send_lists.field-0 in
     let last : IsSent third new most (Ok total) (flat_map list_text (words_altered found)) =
-    subst (λ (words : List (ℕ × Kept)). IsSent third new most (Ok total) (flat_map list_text words)) c.requires.right
+    subst (λ (words : List (ℕ × UnchangedParts)). IsSent third new most (Ok total) (flat_map list_text words)) c.requires.right
     c.in_ok-send_lists.ensures.sent in
     written_whole old new total (check_text long found)
     (all_four old new first second third c.in_ok-sent.sent c.in_ok-sent-2.sent most (Ok total) (findings_text found)

@@ -6,7 +6,7 @@ use Rattle.std.specs.List.{list_any}
 use Rattle.std.proofs.lemmas.List.{map-append, take-append-drop, take_all}
 use Rattle.drum_core.specs.declared.location.Location.{Location}
 use Rattle.drum_times.specs.EdgeOf.{edge_of}
-use Rattle.drum_check.specs.Among.{is_among}
+use Rattle.drum_flow.specs.Taken.{is_among}
 use Rattle.drum_check.specs.FindingsOf.{IsInsideIn}
 use Rattle.drum_check.specs.Insides.{AreHeads, HasSeveralWays, IsRound}
 use Rattle.drum_check.proofs.Numbered.{things_more}

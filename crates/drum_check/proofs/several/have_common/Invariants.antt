@@ -1,6 +1,6 @@
 use Rattle.std.proofs.Common.{◌≡◌, map, drop}
 use Rattle.std.specs.List.{list_any}
-use Rattle.drum_check.specs.Among.{is_among}
+use Rattle.drum_flow.specs.Taken.{is_among}
 use Rattle.drum_check.proofs.several.have_common.Given as goal
 
 -- none of the locations so far is one of these

@@ -1,5 +1,5 @@
 use Rattle.std.proofs.Common.{◌≡◌, map, drop}
-use Rattle.drum_check.specs.Among.{is_among}
+use Rattle.drum_flow.specs.Taken.{is_among}
 use Rattle.drum_check.proofs.several.is_one_of.Given as goal
 
 -- none of the locations so far is this one

@@ -1,6 +1,7 @@
 use Rattle.std.proofs.Common.{◌≡◌, ◌++◌, map, take}
 use Rattle.drum_times.specs.EdgeOf.{edge_of}
-use Rattle.drum_check.specs.Insides.{marks_of, new_marks}
+use Rattle.drum_finding.specs.Edges.{marks_of}
+use Rattle.drum_check.specs.Insides.{new_marks}
 use Rattle.drum_check.proofs.sharing.all_marks.Given as goal
 
 -- the marks that come with the edges so far stand behind the notes'

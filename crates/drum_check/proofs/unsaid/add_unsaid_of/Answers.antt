@@ -2,11 +2,12 @@
 use Rattle.std.proofs.Common.{◌≡◌, ℕ, List, [], map, length, true, false, sym, ◌∙◌, subst}
 use Rattle.std.specs.List.{range_with_len}
 use Rattle.std.proofs.lemmas.List.{append-nil}
-use Rattle.drum_deck.specs.Loads.{loads_in, start_in}
-use Rattle.drum_flow.specs.Flow.{nodes_of}
+use Rattle.drum_deck.specs.InDeck.{loads_in, start_in}
 use Rattle.drum_times.specs.EdgeOf.{edge_of}
+use Rattle.drum_flow.specs.Flow.{nodes_of}
+use Rattle.drum_finding.specs.FindingOf.{seen}
 use Rattle.drum_check.specs.Findings.{edges_at, IsUnsaid}
-use Rattle.drum_check.specs.FindingsOf.{seen, IsInsideIn}
+use Rattle.drum_check.specs.FindingsOf.{IsInsideIn}
 use Rattle.drum_check.specs.Insides.{HasSeveralWays, IsRound}
 use Rattle.drum_check.proofs.Marked.{edges_here}
 use Rattle.drum_check.proofs.Unsaids.{those_none}

@@ -2,11 +2,12 @@
 -- stands without saying so. One more mark is added where it is one of these, and nothing else is.
 use Rattle.std.proofs.Common.{◌≡◌, ◌∷◌, [], ◌++◌, ℕ, true, false, map, ap, sym, ◌∙◌, arith}
 use Rattle.std.proofs.lemmas.List.{map_push}
-use Rattle.drum_deck.specs.Loads.{loads_in, start_in}
-use Rattle.drum_flow.specs.Flow.{nodes_of}
+use Rattle.drum_deck.specs.InDeck.{loads_in, start_in}
 use Rattle.drum_times.specs.EdgeOf.{edge_of}
-use Rattle.drum_check.specs.Findings.{edge_at, inside, inside_at, IsUnsaid}
-use Rattle.drum_check.specs.FindingsOf.{seen}
+use Rattle.drum_flow.specs.Flow.{nodes_of}
+use Rattle.drum_finding.specs.Finding.{inside}
+use Rattle.drum_finding.specs.FindingOf.{seen}
+use Rattle.drum_check.specs.Findings.{edge_at, inside_at, IsUnsaid}
 use Rattle.drum_check.proofs.Unsaids.{pair_in, pair_out}
 use Rattle.drum_check.proofs.unsaid.add_unsaid_one_way.Goals as goal
 

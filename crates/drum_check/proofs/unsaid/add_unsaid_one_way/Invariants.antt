@@ -1,9 +1,9 @@
 use Rattle.std.proofs.Common.{◌≤◌, ℕ, map}
 use Rattle.std.specs.List.{range_with_len}
-use Rattle.drum_deck.specs.Loads.{loads_in, start_in}
+use Rattle.drum_deck.specs.InDeck.{loads_in, start_in}
 use Rattle.drum_flow.specs.Flow.{nodes_of}
+use Rattle.drum_finding.specs.FindingOf.{seen}
 use Rattle.drum_check.specs.Findings.{inside_at, IsUnsaid}
-use Rattle.drum_check.specs.FindingsOf.{seen}
 use Rattle.drum_check.proofs.Unsaids.{AreAdded}
 use Rattle.drum_check.proofs.unsaid.add_unsaid_one_way.Given as goal
 

@@ -1,7 +1,7 @@
 -- Of is_unsaid: the edges are those of the two marks, and all that is asked of them has been looked at.
 use Rattle.std.proofs.Common.{◌≡◌, ℕ, List, map, false, ap, sym, ◌∙◌, subst, ◌↔◌, IsTrue}
 use Rattle.std.proofs.lemmas.Result.{IfOk-weaker}
-use Rattle.drum_deck.specs.Loads.{loads_in, start_in}
+use Rattle.drum_deck.specs.InDeck.{loads_in, start_in}
 use Rattle.drum_times.specs.declared.notes.mark.Mark.{Mark}
 use Rattle.drum_times.specs.Allowed.{Notes}
 use Rattle.drum_machine.specs.Counts.{is_inside}

@@ -1,12 +1,12 @@
 -- Of unsaid_marks: where the marks have too many edges nothing is told.
 use Rattle.std.proofs.Common.{◌<◌, [], map, length, ap, arith}
 use Rattle.std.proofs.lemmas.List.{length-map}
-use Rattle.drum_deck.specs.Loads.{loads_in, start_in}
-use Rattle.drum_flow.specs.Flow.{nodes_of}
+use Rattle.drum_deck.specs.InDeck.{loads_in, start_in}
 use Rattle.drum_times.specs.EdgeOf.{edge_of}
+use Rattle.drum_flow.specs.Flow.{nodes_of}
+use Rattle.drum_finding.specs.FindingOf.{seen}
+use Rattle.drum_finding.specs.Edges.{marked_edges}
 use Rattle.drum_check.specs.Findings.{IsUnsaid, pairs_of}
-use Rattle.drum_check.specs.FindingsOf.{seen}
-use Rattle.drum_check.specs.Insides.{marked_edges}
 use Rattle.drum_check.proofs.Unsaids.{those_nothing}
 use Rattle.drum_check.proofs.unsaid.unsaid_marks.Goals as goal
 

@@ -1,10 +1,10 @@
 use Rattle.std.proofs.Common.{◌≤◌, ℕ, [], length, map}
 use Rattle.std.specs.Prelude.{flat_map}
 use Rattle.std.specs.List.{range_with_len}
-use Rattle.drum_deck.specs.Loads.{loads_in, start_in}
+use Rattle.drum_deck.specs.InDeck.{loads_in, start_in}
 use Rattle.drum_flow.specs.Flow.{nodes_of}
+use Rattle.drum_finding.specs.FindingOf.{seen}
 use Rattle.drum_check.specs.Findings.{inside_at, IsUnsaid}
-use Rattle.drum_check.specs.FindingsOf.{seen}
 use Rattle.drum_check.proofs.Unsaids.{AreAdded}
 use Rattle.drum_check.proofs.unsaid.unsaid_of.Given as goal
 

@@ -1,5 +1,5 @@
 use Rattle.std.proofs.Common.{sym, ◌∙◌, arith}
-use Rattle.drum_deck.proofs.Loads.{held_is_said, held_within}
+use Rattle.drum_deck.proofs.InDeckLaws.{held_is_said, held_within}
 use Rattle.drum_deck.proofs.laws.loads_what_is_said.Goals as goal
 
 pub returns-clause-loads : goal.returns-clause-loads

@@ -7,7 +7,7 @@ use Rattle.drum_documents.proofs.files.text_of.Goals as goal
 
 pub returns-in-Ok-clause-bytes : goal.returns-in-Ok-clause-bytes
 returns-in-Ok-clause-bytes g c =
-    text_held c.args.part c.limit_of.result c.in-Ok.bytes.items (g.I.Input.unread c.args.text.now) c.limit_of.ensures
+    text_held c.args.part c.most_bytes.result c.in-Ok.bytes.items (g.I.Input.unread c.args.text.now) c.most_bytes.ensures
     (omega (arith, c.in-Ok.ensures.within, c.in-Ok.bytes.ok.0)) c.in-Ok.ensures.all
 
 pub returns-in-Ok-clause-counted : goal.returns-in-Ok-clause-counted
@@ -20,14 +20,14 @@ returns-in-Ok-clause-counted g c fresh =
 pub returns-in-Ok-clause-all : goal.returns-in-Ok-clause-all
 returns-in-Ok-clause-all g c uncalled unfailed unended ungiven unspared =
     let is = c.in-Ok.ensures in
-    read_well c.args.part c.limit_of.result c.limit_of.ensures _ _ _ _ _ _ _ _ _ _ uncalled unfailed unended ungiven
+    read_well c.args.part c.most_bytes.result c.most_bytes.ensures _ _ _ _ _ _ _ _ _ _ uncalled unfailed unended ungiven
     unspared is.asked is.each is.ended is.idle is.taken is.once is.counted (λ one. let bad = is.read.1 one in cc)
     is.whole
 
 pub returns-in-Err-clause-fault : goal.returns-in-Err-clause-fault
 returns-in-Err-clause-fault g c =
-    text_unread c.args.part c.limit_of.result c.in-Err.error c.fault_by.result (g.I.Input.unread c.args.text.now)
-    c.limit_of.ensures c.fault_by.ensures (λ e. c.in-Err.ensures.long cc)
+    text_unread c.args.part c.most_bytes.result c.in-Err.error c.fault_by.result (g.I.Input.unread c.args.text.now)
+    c.most_bytes.ensures c.fault_by.ensures (λ e. c.in-Err.ensures.long cc)
 
 pub returns-in-Err-clause-counted : goal.returns-in-Err-clause-counted
 returns-in-Err-clause-counted g c fresh =
@@ -41,7 +41,7 @@ returns-in-Err-clause-of g c = rw c.fault_by.ensures (fault_of_text c.args.part 
 pub returns-in-Err-clause-all : goal.returns-in-Err-clause-all
 returns-in-Err-clause-all g c uncalled unfailed unended ungiven unspared =
     let is = c.in-Err.ensures in
-    rw c.fault_by.ensures (read_badly c.args.part c.limit_of.result c.limit_of.ensures _ _ _ _ _ _ _ _ _ _ uncalled
+    rw c.fault_by.ensures (read_badly c.args.part c.most_bytes.result c.most_bytes.ensures _ _ _ _ _ _ _ _ _ _ uncalled
     unfailed unended ungiven unspared is.asked is.each is.ended is.idle is.taken is.once is.counted c.in-Err.error
     (λ e. is.read.0 cc) (λ one. let read = is.read.1 one in cc) (λ e. is.past cc)
     (λ all. elim (is.full all) [ inl long ↦ inl cc | inr wants ↦ inr cc ]))

@@ -1,6 +1,6 @@
 use Rattle.std.proofs.Common.{◌≡◌, ℕ, ◌<◌, Some, vec_len}
 use Rattle.std.specs.Prelude.{slice_get}
-use Rattle.drum_deck.specs.Loads.{loads_in}
+use Rattle.drum_deck.specs.InDeck.{loads_in}
 use Rattle.drum_emulator.specs.FirstState.{first_word}
 use Rattle.drum_emulator.proofs.first_drum.first_drum.Given as goal
 

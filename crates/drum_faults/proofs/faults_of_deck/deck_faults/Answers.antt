@@ -1,7 +1,7 @@
 use Rattle.std.proofs.Common.{ap, ◌∙◌, Vec, Global}
 use Rattle.drum_deck.specs.declared.deck.fault.DeckFault.{DeckFault}
 use Rattle.drum_faults.specs.declared.placed_fault.PlacedFault.{PlacedFault}
-use Rattle.drum_faults.proofs.Told.{deck_told, startless_told}
+use Rattle.drum_faults.proofs.ReadSoFar.{deck_told, startless_told}
 use Rattle.drum_faults.proofs.faults_of_deck.deck_faults.Goals as goal
 use Rattle.drum_faults.proofs.faults_of_deck.deck_faults.Goals.{then-not-has_start+in_ok-push-2, else-not-has_start}
 

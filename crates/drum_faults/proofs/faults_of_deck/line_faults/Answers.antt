@@ -4,7 +4,7 @@ use Rattle.std.proofs.Common.{◌≡◌, ◌+◌, ℕ, List, length, ap, sym, su
 use Rattle.drum_deck.specs.declared.deck.lines.Lines.{Lines}
 use Rattle.drum_deck.specs.declared.deck.fault.DeckFault.{DeckFault}
 use Rattle.drum_faults.specs.declared.placed_fault.PlacedFault.{PlacedFault}
-use Rattle.drum_faults.proofs.Told.{Told, nothing_told, sound_told, fault_told, all_told, few_told}
+use Rattle.drum_faults.proofs.ReadSoFar.{ReadSoFar, nothing_told, sound_told, fault_told, all_told, few_told}
 use Rattle.drum_faults.proofs.faults_of_deck.line_faults.Goals as goal
 
 pub loop-line-init : goal.loop-line-init
@@ -14,7 +14,7 @@ loop-line-init c =
     ap (λ (lines : Lines). lines.rest.now) (sym c.into_iter-line-iterator.ensures.into_iter_gives) in
     record {
       told =
-          subst (λ (faults : List (PlacedFault DeckFault)). Told c.args.text.now rest c.in_ok-so_far.so_far 0 faults)
+          subst (λ (faults : List (PlacedFault DeckFault)). ReadSoFar c.args.text.now rest c.in_ok-so_far.so_far 0 faults)
           (sym c.new-faults.ensures.items)
           (nothing_told c.args.text.now rest c.in_ok-so_far.so_far same c.in_ok-so_far.ensures);
     }
@@ -45,7 +45,7 @@ loop-line-preserved-in-Continue-branch-2 c =
     let faulty = c.in-Some-take.ensures.faulty p.lines next p.holds in
     record {
       told =
-          subst (λ (faults : List (PlacedFault DeckFault)). Told c.args.text.now c.next.new.self.rest.now c.take.new.self
+          subst (λ (faults : List (PlacedFault DeckFault)). ReadSoFar c.args.text.now c.next.new.self.rest.now c.take.new.self
           (c.loop-line.number + 1) faults) (sym c.in_ok-push.ensures.items)
           (fault_told c.args.text.now c.loop-line.line-iterator.rest.now c.next.new.self.rest.now c.in-Some.line.now
           c.loop-line.so_far c.take.new.self c.loop-line.number c.loop-line.faults.items c.in-Some-take.placed p

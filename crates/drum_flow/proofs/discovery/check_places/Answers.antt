@@ -8,7 +8,7 @@ use Rattle.std.proofs.lemmas.List.{length-map}
 use Rattle.std.proofs.lemmas.Option.{same_Some, slice_get_within}
 use Rattle.drum_core.specs.declared.location.Location.{Location}
 use Rattle.drum_devices.proofs.Handed.{handed}
-use Rattle.drum_deck.specs.Loads.{loads_in}
+use Rattle.drum_deck.specs.InDeck.{loads_in}
 use Rattle.drum_order.proofs.Lists.{contains_at}
 use Rattle.drum_flow.specs.Accepted.{IsGood}
 use Rattle.drum_flow.proofs.Founds.{number_at, numbers}

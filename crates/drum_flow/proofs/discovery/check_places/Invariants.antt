@@ -1,6 +1,6 @@
 use Rattle.std.proofs.Common.{◌≡◌, ℕ, ◌<◌, Some}
 use Rattle.std.specs.Prelude.{slice_get}
-use Rattle.drum_deck.specs.Loads.{loads_in}
+use Rattle.drum_deck.specs.InDeck.{loads_in}
 use Rattle.drum_flow.specs.Accepted.{IsGood}
 use Rattle.drum_flow.proofs.Founds.{numbers}
 use Rattle.drum_flow.proofs.discovery.check_places.Given as goal

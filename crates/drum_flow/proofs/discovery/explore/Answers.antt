@@ -5,13 +5,13 @@ use Rattle.std.proofs.lemmas.Bool.{cases_lt}
 use Rattle.std.proofs.lemmas.List.{length-map}
 use Rattle.std.proofs.lemmas.Option.{slice_get-map, slice_get_within}
 use Rattle.drum_core.specs.declared.word.Word.{Word}
-use Rattle.drum_deck.specs.Loads.{loads_in, start_in}
+use Rattle.drum_deck.specs.InDeck.{loads_in, start_in}
 use Rattle.drum_times.specs.Allowed.{Notes}
 use Rattle.drum_machine.specs.declared.open.Open.{Open}
 use Rattle.drum_order.proofs.Lists.{contains_from_get}
 use Rattle.drum_flow.specs.declared.node.Node as held
 use Rattle.drum_flow.specs.Executed.{found_after, AreAllNodes}
-use Rattle.drum_flow.specs.Held.{node_of, nodes_in}
+use Rattle.drum_flow.specs.InNodes.{node_of, nodes_in}
 use Rattle.drum_flow.specs.Hops.{Node}
 use Rattle.drum_flow.proofs.Orders.{found_next}
 use Rattle.drum_flow.proofs.discovery.explore.Goals as goal

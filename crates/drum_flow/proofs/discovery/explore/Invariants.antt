@@ -1,7 +1,7 @@
 use Rattle.std.proofs.Common.{◌≡◌, ◌≤◌, ◌-◌, ◌^◌}
-use Rattle.drum_deck.specs.Loads.{loads_in, start_in}
+use Rattle.drum_deck.specs.InDeck.{loads_in, start_in}
 use Rattle.drum_flow.specs.Executed.{found_after}
-use Rattle.drum_flow.specs.Held.{AreHeld, nodes_in}
+use Rattle.drum_flow.specs.InNodes.{AreHeld, nodes_in}
 use Rattle.drum_flow.proofs.discovery.explore.Given as goal
 
 -- the first `turn` nodes, not too many, have added those that edges lead to from them

@@ -1,10 +1,10 @@
 use Rattle.std.proofs.Common.{◌≡◌, ◌<◌, List, take, length, sym, ap, ◌∙◌, subst}
 use Rattle.std.proofs.lemmas.List.{take_all}
-use Rattle.drum_deck.specs.Loads.{loads_in, start_in}
+use Rattle.drum_deck.specs.InDeck.{loads_in, start_in}
 use Rattle.drum_flow.specs.Discovered.{IsDiscovered}
 use Rattle.drum_flow.specs.Executed.{each_place}
 use Rattle.drum_flow.specs.Found.{places_of}
-use Rattle.drum_flow.specs.Held.{nodes_in}
+use Rattle.drum_flow.specs.InNodes.{nodes_in}
 use Rattle.drum_flow.specs.Hops.{Node}
 use Rattle.drum_flow.proofs.Orders.{all_found, many_met}
 use Rattle.drum_flow.proofs.discovery.flow.Goals as goal

@@ -1,8 +1,8 @@
 use Rattle.std.proofs.Common.{List, ℕ, take, sym, ap, ◌∙◌, subst}
 use Rattle.drum_devices.proofs.Handed.{handed}
-use Rattle.drum_deck.specs.Loads.{loads_in, start_in}
+use Rattle.drum_deck.specs.InDeck.{loads_in, start_in}
 use Rattle.drum_times.specs.declared.notes.call.Call.{Call}
-use Rattle.drum_flow.specs.Held.{nodes_in}
+use Rattle.drum_flow.specs.InNodes.{nodes_in}
 use Rattle.drum_flow.specs.Executed.{each_place}
 use Rattle.drum_flow.specs.Hops.{Node}
 use Rattle.drum_flow.specs.Refused.{IsFirstWrong}

@@ -3,8 +3,8 @@ use Rattle.std.specs.Prelude.{slice_index_or}
 use Rattle.std.proofs.lemmas.List.{length-map, length-take}
 use Rattle.drum_core.specs.declared.location.Location.{Location}
 use Rattle.drum_machine.specs.OpenIn.{number_of, open_in}
-use Rattle.drum_flow.specs.Held.{ways_in}
-use Rattle.drum_flow.proofs.HeldNodes.{ways_of_one, ways_there}
+use Rattle.drum_flow.specs.InNodes.{ways_in}
+use Rattle.drum_flow.proofs.InNodesLaws.{ways_of_one, ways_there}
 use Rattle.drum_flow.proofs.openings.behind.Goals as goal
 
 -- what is open has a way back, or none, for each call

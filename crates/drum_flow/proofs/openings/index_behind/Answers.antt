@@ -4,8 +4,8 @@ use Rattle.std.proofs.lemmas.List.{append-nil}
 use Rattle.drum_machine.specs.declared.open.Open.{Open}
 use Rattle.drum_machine.specs.Calls.{open_after}
 use Rattle.drum_machine.specs.OpenIn.{between, open_in}
-use Rattle.drum_flow.specs.Held.{ways_in, ArePlacedIn}
-use Rattle.drum_flow.proofs.HeldNodes.{placed_last}
+use Rattle.drum_flow.specs.InNodes.{ways_in, ArePlacedIn}
+use Rattle.drum_flow.proofs.InNodesLaws.{placed_last}
 use Rattle.drum_flow.proofs.openings.index_behind.Goals as goal
 
 pub returns-in-Ok : goal.returns-in-Ok

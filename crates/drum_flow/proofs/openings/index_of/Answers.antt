@@ -6,8 +6,8 @@ use Rattle.std.proofs.lemmas.Option.{same_Some, slice_get-get_or, slice_get_with
 use Rattle.drum_machine.specs.declared.open.Open.{Open}
 use Rattle.drum_machine.specs.OpenIn.{open_in}
 use Rattle.drum_order.proofs.Lists.{contains_at}
-use Rattle.drum_flow.specs.Held.{ways_in}
-use Rattle.drum_flow.proofs.HeldNodes.{ways_at}
+use Rattle.drum_flow.specs.InNodes.{ways_in}
+use Rattle.drum_flow.proofs.InNodesLaws.{ways_at}
 use Rattle.drum_flow.proofs.Links.{ways_law}
 use Rattle.drum_flow.proofs.openings.index_of.Goals as goal
 

@@ -1,7 +1,7 @@
 use Rattle.std.proofs.Common.{◌≡◌, ℕ, ◌<◌, Some}
 use Rattle.std.specs.Prelude.{slice_get}
 use Rattle.drum_machine.specs.OpenIn.{open_in}
-use Rattle.drum_flow.specs.Held.{ways_in}
+use Rattle.drum_flow.specs.InNodes.{ways_in}
 use Rattle.drum_flow.proofs.openings.index_of.Given as goal
 
 -- none of those so far is the same

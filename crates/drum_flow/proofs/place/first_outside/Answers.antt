@@ -5,7 +5,7 @@ use Rattle.std.proofs.Common.{◌≡◌, ℕ, true, false, not, Option, ap, sym,
 use Rattle.std.specs.Prelude.{is_some}
 use Rattle.drum_core.specs.declared.instruction.Instruction.{Instruction}
 use Rattle.drum_core.specs.declared.op.Op.{Op}
-use Rattle.drum_deck.specs.Loads.{loads_in}
+use Rattle.drum_deck.specs.InDeck.{loads_in}
 use Rattle.drum_core.specs.Op.{op_of}
 use Rattle.drum_times.specs.Allowed.{allowed}
 use Rattle.drum_flow.specs.Accepted.{IsFirstIn}

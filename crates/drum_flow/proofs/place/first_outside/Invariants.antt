@@ -1,7 +1,7 @@
 use Rattle.std.proofs.Common.{◌≡◌, ◌++◌, Contains}
 use Rattle.std.specs.Prelude.{flat_map}
 use Rattle.drum_core.specs.declared.instruction.Instruction.{Instruction}
-use Rattle.drum_deck.specs.Loads.{loads_in}
+use Rattle.drum_deck.specs.InDeck.{loads_in}
 use Rattle.drum_times.specs.Allowed.{allowed, matching}
 use Rattle.drum_flow.specs.Patterns.{patterns_left}
 use Rattle.drum_flow.specs.Accepted.{IsOutside}

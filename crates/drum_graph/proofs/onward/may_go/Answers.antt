@@ -1,4 +1,4 @@
-use Rattle.drum_deck.specs.Loads.{loads_in, start_in}
+use Rattle.drum_deck.specs.InDeck.{loads_in, start_in}
 use Rattle.drum_flow.specs.Flow.{nodes_of}
 use Rattle.drum_acceptance.proofs.FreeRows.{some_at}
 use Rattle.drum_graph.proofs.Taken.{goes_as_found}

@@ -4,15 +4,15 @@ use Rattle.std.specs.Prelude.{filter}
 use Rattle.std.proofs.lemmas.List.{length-map}
 use Rattle.drum_core.specs.declared.location.Location.{Location}
 use Rattle.drum_deck.specs.declared.deck.Deck.{Deck}
-use Rattle.drum_deck.specs.Loads.{loads_in, start_in}
+use Rattle.drum_deck.specs.InDeck.{loads_in, start_in}
 use Rattle.drum_times.specs.Allowed.{Notes}
 use Rattle.drum_order.specs.Graph.{AreDifferent}
 use Rattle.drum_order.proofs.Lists.{contains_from_get}
-use Rattle.drum_flow.proofs.Founds.{number_at}
 use Rattle.drum_flow.specs.Executed.{successors, with_new}
 use Rattle.drum_flow.specs.Flow.{nodes_of}
 use Rattle.drum_flow.specs.Found.{places_of}
-use Rattle.drum_graph.specs.Graph.{is_taken}
+use Rattle.drum_flow.specs.Taken.{is_taken}
+use Rattle.drum_flow.proofs.Founds.{number_at}
 use Rattle.drum_graph.proofs.Taken.{all_kept, none_kept, one_kept, target_edge}
 use Rattle.drum_graph.proofs.onward.nexts_at.Goals as goal
 

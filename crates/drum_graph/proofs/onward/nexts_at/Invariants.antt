@@ -3,7 +3,7 @@ use Rattle.std.specs.Prelude.{filter}
 use Rattle.drum_flow.specs.Executed.{with_new}
 use Rattle.drum_flow.specs.Flow.{nodes_of}
 use Rattle.drum_flow.specs.Found.{places_of}
-use Rattle.drum_graph.specs.Graph.{is_taken}
+use Rattle.drum_flow.specs.Taken.{is_taken}
 use Rattle.drum_graph.proofs.onward.nexts_at.Given as goal
 
 -- of the locations so far those to which a step may go on

@@ -3,8 +3,8 @@ use Rattle.std.specs.Prelude.{filter, not, is_some, OnOk}
 use Rattle.drum_flow.specs.Executed.{with_new}
 use Rattle.drum_flow.specs.Flow.{executed_in}
 use Rattle.drum_flow.specs.Found.{places_of}
-use Rattle.drum_graph.specs.Graph.{is_among}
-use Rattle.drum_graph.proofs.Among.{among_found}
+use Rattle.drum_flow.specs.Taken.{is_among}
+use Rattle.drum_flow.proofs.Among.{among_found}
 use Rattle.drum_graph.proofs.Words.{word_dropped, word_kept}
 use Rattle.drum_graph.proofs.written.add_word.Goals as goal
 

@@ -5,15 +5,16 @@ use Rattle.drum_machine.specs.Writes.{writes}
 use Rattle.drum_flow.specs.Executed.{with_new}
 use Rattle.drum_flow.specs.Flow.{executed_in}
 use Rattle.drum_flow.specs.Found.{places_of}
+use Rattle.drum_flow.specs.Taken.{is_among}
 use Rattle.drum_flow.proofs.Additions.{added_alike}
 use Rattle.drum_flow.proofs.Matched.{matching_at, matching_from, matching_d, matching_with_d}
-use Rattle.drum_graph.specs.Graph.{is_among, written_by}
+use Rattle.drum_graph.specs.Graph.{executed_writes}
 use Rattle.drum_graph.proofs.written.add_written_in.Goals as goal
 
 pub loop-d-preserved : goal.loop-d-preserved
 loop-d-preserved c =
     let executed = executed_in c.args.flow.now in
-    let adds : Instruction → List ℕ = written_by executed in
+    let adds : Instruction → List ℕ = executed_writes executed in
     let pattern = c.args.pattern in
     let d = c.loop-d.d in
     let next = c.same_writes_end-d.result in
@@ -21,8 +22,8 @@ loop-d-preserved c =
     let ins = c.instruction_of-instruction.result in
     let made = c.instruction_of-instruction.ensures in
     let at : ins.d ≡ d = ap (λ (one : Instruction). one.d) made ∙ matching_d pattern d c.loop-d-test.true in
-    let grown : places_of c.add_written_by.new.written ≡ with_new before (adds (matching_at pattern d)) =
-    c.in_ok-add_written_by.ensures ∙ ap (λ (one : Instruction). with_new before (adds one)) made in
+    let grown : places_of c.add_executed_writes.new.written ≡ with_new before (adds (matching_at pattern d)) =
+    c.in_ok-add_executed_writes.ensures ∙ ap (λ (one : Instruction). with_new before (adds one)) made in
     ap (λ (places : List ℕ). with_new places (flat_map adds (matching_from pattern next))) grown
     ∙ sym (added_alike adds pattern before d next c.loop-d-test.true
     (omega (arith, at, c.same_writes_end-d.ensures.past))

@@ -2,7 +2,7 @@ use Rattle.std.proofs.Common.{◌≡◌, ℕ, List, sym, ap, ◌∙◌}
 use Rattle.std.specs.Prelude.{flat_map}
 use Rattle.drum_deck.specs.declared.deck.Deck.{Deck}
 use Rattle.drum_core.specs.declared.instruction.Instruction.{Instruction}
-use Rattle.drum_deck.specs.Loads.{loads_in}
+use Rattle.drum_deck.specs.InDeck.{loads_in}
 use Rattle.drum_times.specs.Allowed.{Notes, allowed, matching}
 use Rattle.drum_flow.specs.declared.patterns.Patterns.{Patterns}
 use Rattle.drum_flow.specs.Executed.{with_new}
@@ -10,13 +10,13 @@ use Rattle.drum_flow.specs.Flow.{executed_in}
 use Rattle.drum_flow.specs.Found.{places_of}
 use Rattle.drum_flow.specs.Patterns.{patterns_left}
 use Rattle.drum_flow.proofs.Additions.{added_more}
-use Rattle.drum_graph.specs.Graph.{written_by}
+use Rattle.drum_graph.specs.Graph.{executed_writes}
 use Rattle.drum_graph.proofs.written.written_at.Goals as goal
 
 pub loop-pattern-init : goal.loop-pattern-init
 loop-pattern-init c =
     let flow = c.args.flow.now in
-    let adds : Instruction → List ℕ = written_by (executed_in flow) in
+    let adds : Instruction → List ℕ = executed_writes (executed_in flow) in
     let all : flat_map matching (patterns_left c.into_iter-pattern-iterator.result)
     ≡ allowed (loads_in flow.deck.now) flow.notes.now c.args.location.number =
     ap (λ (patterns : Patterns). flat_map matching (patterns_left patterns))
@@ -30,7 +30,7 @@ loop-pattern-init c =
 pub loop-pattern-preserved : goal.loop-pattern-preserved
 loop-pattern-preserved c =
     let flow = c.args.flow.now in
-    let adds : Instruction → List ℕ = written_by (executed_in flow) in
+    let adds : Instruction → List ℕ = executed_writes (executed_in flow) in
     let rest = patterns_left c.next.new.self in
     ap (λ (places : List ℕ). with_new places (flat_map adds (flat_map matching rest))) c.in_ok-add_written_in.ensures
     ∙ sym (added_more adds (places_of c.loop-pattern.written) c.in-Some.pattern

@@ -1,4 +1,4 @@
-use Rattle.drum_listing.proofs.DataAngles.{same_data_at}
+use Rattle.drum_hop_lines.proofs.DataAngles.{same_data_at}
 use Rattle.drum_listing.proofs.laws.data_angles_are_one.Goals as goal
 
 pub returns : goal.returns

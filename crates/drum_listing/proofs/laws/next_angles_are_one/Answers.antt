@@ -1,4 +1,4 @@
-use Rattle.drum_listing.proofs.NextAngles.{same_next_at}
+use Rattle.drum_hop_lines.proofs.NextAngles.{same_next_at}
 use Rattle.drum_listing.proofs.laws.next_angles_are_one.Goals as goal
 
 pub returns : goal.returns

@@ -1,5 +1,5 @@
-use Rattle.drum_listing.proofs.AddingUp.{kind_fits, kinds_add_up}
-use Rattle.drum_listing.proofs.WholeFits.{whole_fits}
+use Rattle.drum_hop_lines.proofs.AddingUp.{kind_fits, kinds_add_up}
+use Rattle.drum_hop_lines.proofs.WholeFits.{whole_fits}
 use Rattle.drum_listing.proofs.laws.waits_add_up.Goals as goal
 
 pub returns-clause-times : goal.returns-clause-times

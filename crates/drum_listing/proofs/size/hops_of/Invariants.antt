@@ -1,5 +1,5 @@
 use Rattle.std.proofs.Common.{◌≡◌, ◌*◌, ◌≤◌, take}
-use Rattle.drum_deck.specs.Loads.{loads_in}
+use Rattle.drum_deck.specs.InDeck.{loads_in}
 use Rattle.drum_flow.specs.Flow.{deck_of, executed_in, notes_of}
 use Rattle.drum_listing.specs.SizeText.{hops_among}
 use Rattle.drum_listing.proofs.size.hops_of.Given as goal

@@ -12,8 +12,8 @@ use Rattle.drum_bound.specs.AnalysisOf.{angle_of, bound_of, visits_of}
 use Rattle.drum_lines.specs.BoundText.{bound_text}
 use Rattle.drum_lines.specs.Sent.{IsSent}
 use Rattle.drum_lines.proofs.Sending.{IsSent-cut, IsSent-then, written_whole, written_cut}
-use Rattle.drum_listing.specs.WalkText.{visit_line, walk_text}
-use Rattle.drum_listing.proofs.Lines.{flat_map_map}
+use Rattle.drum_hop_lines.specs.WalkText.{visit_line, walk_text}
+use Rattle.drum_hop_lines.proofs.Lines.{flat_map_map}
 use Rattle.drum_listing.proofs.walk.list_walk.Goals as goal
 
 -- the lines that went out are those of the analysis's hops

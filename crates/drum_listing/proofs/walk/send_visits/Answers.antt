@@ -9,9 +9,9 @@ use Rattle.drum_walks.specs.declared.visit.Visit.{Visit}
 use Rattle.drum_walks.specs.Visited.{seen_visit}
 use Rattle.drum_lines.specs.Sent.{IsSent}
 use Rattle.drum_lines.proofs.Sending.{IsSent-cut, IsSent-then}
-use Rattle.drum_listing.specs.Page.{text_of}
-use Rattle.drum_listing.specs.WalkText.{visit_line}
-use Rattle.drum_listing.proofs.Gathers.{lines_begin, lines_more, take_all}
+use Rattle.drum_hop_lines.specs.Page.{text_of}
+use Rattle.drum_hop_lines.specs.WalkText.{visit_line}
+use Rattle.drum_hop_lines.proofs.Gathers.{lines_begin, lines_more, take_all}
 use Rattle.drum_listing.proofs.walk.send_visits.Goals as goal
 
 pub returns-in_err-sent-clause-sent : goal.returns-in_err-sent-clause-sent

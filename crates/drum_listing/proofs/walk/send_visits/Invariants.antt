@@ -3,8 +3,8 @@ use Rattle.drum_times.specs.Entries.{entry_in}
 use Rattle.drum_walks.specs.declared.visit.Visit.{Visit}
 use Rattle.drum_walks.specs.Visited.{seen_visit}
 use Rattle.drum_lines.specs.Sent.{IsSent}
-use Rattle.drum_listing.specs.Page.{text_of}
-use Rattle.drum_listing.specs.WalkText.{visit_line}
+use Rattle.drum_hop_lines.specs.Page.{text_of}
+use Rattle.drum_hop_lines.specs.WalkText.{visit_line}
 use Rattle.drum_listing.proofs.walk.send_visits.Given as goal
 
 -- the lines so far have gone out, but for those that are gathered

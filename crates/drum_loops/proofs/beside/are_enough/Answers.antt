@@ -1,5 +1,5 @@
 use Rattle.std.proofs.Common.{map, ◌∙◌, arith}
-use Rattle.drum_deck.specs.Loads.{loads_in, start_in}
+use Rattle.drum_deck.specs.InDeck.{loads_in, start_in}
 use Rattle.drum_times.specs.EdgeOf.{edge_of}
 use Rattle.drum_order.specs.Graph.{row, size, IsCycle, IsTopologicalOrder}
 use Rattle.drum_flow.specs.Flow.{nodes_of}

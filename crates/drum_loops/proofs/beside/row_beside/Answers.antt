@@ -11,7 +11,7 @@ use Rattle.drum_flow.proofs.Orders.{place_at}
 use Rattle.drum_times.specs.EdgeOf.{edge_of}
 use Rattle.drum_loops.specs.Closing.{places_in}
 use Rattle.drum_loops.specs.Spared.{edge_at, IsRowBeside}
-use Rattle.drum_loops.proofs.Behinds.{row_inside}
+use Rattle.drum_loops.proofs.TargetLaws.{row_inside}
 use Rattle.drum_loops.proofs.Besides.{beside_more, beside_there, none_beside}
 use Rattle.drum_loops.proofs.beside.row_beside.Goals as goal
 

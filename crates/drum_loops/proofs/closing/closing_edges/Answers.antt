@@ -1,7 +1,7 @@
 -- Of closing_edges: the edges that lead back are enough; where none of them also goes on, each is needed.
 use Rattle.std.proofs.Common.{◌≡◌, ℕ, List, map, sym, ◌∙◌, subst, arith}
 use Rattle.std.specs.Prelude.{Contains}
-use Rattle.drum_deck.specs.Loads.{loads_in, start_in}
+use Rattle.drum_deck.specs.InDeck.{loads_in, start_in}
 use Rattle.drum_times.specs.EdgeOf.{edge_of}
 use Rattle.drum_order.specs.Graph.{row, size}
 use Rattle.drum_flow.specs.Flow.{executed_in, nodes_of}

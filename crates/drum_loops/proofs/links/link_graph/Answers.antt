@@ -1,4 +1,4 @@
-use Rattle.drum_deck.specs.Loads.{loads_in}
+use Rattle.drum_deck.specs.InDeck.{loads_in}
 use Rattle.drum_flow.specs.Flow.{nodes_of}
 use Rattle.drum_loops.proofs.LinkRows.{links_within}
 use Rattle.drum_loops.proofs.links.link_graph.Goals as goal

@@ -4,7 +4,7 @@ use Rattle.std.specs.Prelude.{slice_get, Vec}
 use Rattle.std.specs.declared.alloc.Global.{Global}
 use Rattle.std.proofs.lemmas.List.{length_push}
 use Rattle.std.proofs.lemmas.Option.{same_Some, slice_get_within}
-use Rattle.drum_deck.specs.Loads.{loads_in}
+use Rattle.drum_deck.specs.InDeck.{loads_in}
 use Rattle.drum_order.specs.Rows.{targets_in}
 use Rattle.drum_flow.specs.Flow.{nodes_of}
 use Rattle.drum_flow.specs.Hops.{Node}

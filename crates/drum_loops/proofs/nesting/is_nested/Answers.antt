@@ -2,7 +2,7 @@
 use Rattle.std.proofs.Common.{◌≡◌, true, false, sym, ◌∙◌}
 use Rattle.std.specs.Prelude.{IsTrue, ◌↔◌}
 use Rattle.std.proofs.lemmas.Result.{IfOk-weaker}
-use Rattle.drum_deck.specs.Loads.{loads_in, start_in}
+use Rattle.drum_deck.specs.InDeck.{loads_in, start_in}
 use Rattle.drum_times.specs.EdgeOf.{edge_of}
 use Rattle.drum_order.specs.Graph.{row, size}
 use Rattle.drum_flow.specs.Flow.{nodes_of, of_flow}

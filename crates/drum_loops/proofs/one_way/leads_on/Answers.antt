@@ -7,7 +7,7 @@ use Rattle.drum_flow.specs.Flow.{nodes_of}
 use Rattle.drum_flow.specs.Found.{places_of}
 use Rattle.drum_flow.proofs.Orders.{place_at}
 use Rattle.drum_loops.specs.Closing.{places_in}
-use Rattle.drum_loops.proofs.Behinds.{row_inside}
+use Rattle.drum_loops.proofs.TargetLaws.{row_inside}
 use Rattle.drum_loops.proofs.OneWays.{absent_at, none_ahead, ahead_absent, ahead_low, NoneAhead}
 use Rattle.drum_loops.proofs.one_way.leads_on.Goals as goal
 

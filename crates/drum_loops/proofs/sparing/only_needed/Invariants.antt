@@ -1,5 +1,5 @@
 use Rattle.std.proofs.Common.{length, map}
-use Rattle.drum_deck.specs.Loads.{loads_in, start_in}
+use Rattle.drum_deck.specs.InDeck.{loads_in, start_in}
 use Rattle.drum_times.specs.EdgeOf.{edge_of}
 use Rattle.drum_loops.specs.Spared.{AreSpared}
 use Rattle.drum_loops.proofs.sparing.only_needed.Given as goal

@@ -3,7 +3,7 @@
 -- first step.
 use Rattle.std.proofs.Common.{◌≡◌, ◌∙◌, refl, sym, ap, None}
 use Rattle.std.specs.Prelude.{option_map}
-use Rattle.drum_deck.specs.Loads.{loads_in}
+use Rattle.drum_deck.specs.InDeck.{loads_in}
 use Rattle.drum_emulator.specs.Feed.{cards_left}
 use Rattle.drum_emulator.specs.Machine.{state_in}
 use Rattle.drum_monitor.specs.Monitor.{answer_of}

@@ -17,12 +17,12 @@ returns-in-None-clause-verdict c =
     let g = setting c.args.deck.now c.args.times.now c.args.notes.now in
     let is = c.in_ok-following.ensures.begun in
     let begun = c.in_ok-following.field-0 in
-    replay_of g (given c.args.inputs) begun.most begun.most (length c.follow.ensures.0) c.follow.result is.has is.worst
+    replay_of g (given c.args.inputs) begun.most begun.most (length c.follow_run.ensures.0) c.follow_run.result is.has is.worst
     refl
-    (judged_followed g (given c.args.inputs) begun is.begun_of c.follow.ensures.0 c.follow.result c.follow.ensures.1)
+    (judged_followed g (given c.args.inputs) begun is.begun_of c.follow_run.ensures.0 c.follow_run.result c.follow_run.ensures.1)
 
-pub follow-requires-clause-begins : goal.follow-requires-clause-begins
-follow-requires-clause-begins c = c.in_ok-following.ensures.begun.begun_of.ready.begins c.in-None.is
+pub follow_run-requires-clause-begins : goal.follow_run-requires-clause-begins
+follow_run-requires-clause-begins c = c.in_ok-following.ensures.begun.begun_of.ready.begins c.in-None.is
 
-pub follow-requires-clause-follows : goal.follow-requires-clause-follows
-follow-requires-clause-follows c = c.in_ok-following.ensures.begun.begun_of.ready.follows c.in-None.is
+pub follow_run-requires-clause-follows : goal.follow_run-requires-clause-follows
+follow_run-requires-clause-follows c = c.in_ok-following.ensures.begun.begun_of.ready.follows c.in-None.is

@@ -7,7 +7,7 @@ use Rattle.std.proofs.KnownBytes.{Appends-nil}
 use Rattle.std.proofs.lemmas.List.{append-nil}
 use Rattle.std.proofs.lemmas.Result.{err_from_is_err_and}
 use Rattle.drum_core.specs.declared.op.Op.{Op}
-use Rattle.drum_deck.specs.Loads.{loads_in}
+use Rattle.drum_deck.specs.InDeck.{loads_in}
 use Rattle.drum_times.specs.declared.entry.Entry.{Entry}
 use Rattle.drum_times.specs.declared.notes.pattern.Pattern.{Pattern}
 use Rattle.drum_times.specs.Allowed.{Listed}
@@ -19,9 +19,9 @@ use Rattle.drum_flow.specs.SettingOf.{setting}
 use Rattle.drum_lines.specs.declared.verdict.Verdict.{Verdict}
 use Rattle.drum_lines.specs.Sent.{IsSent}
 use Rattle.drum_lines.proofs.Sending.{IsSent-then, written_cut, written_whole}
-use Rattle.drum_listing.specs.Page.{text_of}
-use Rattle.drum_listing.specs.StepOf.{IsStepOf}
-use Rattle.drum_listing.specs.TraceText.{stride_line, stride_lines}
+use Rattle.drum_hop_lines.specs.Page.{text_of}
+use Rattle.drum_hop_lines.specs.StepOf.{IsStepOf}
+use Rattle.drum_hop_lines.specs.TraceText.{stride_line, stride_lines}
 use Rattle.drum_replay.specs.Coverage.{is_met}
 use Rattle.drum_replay.specs.Following.{IsFollowed, IsFollowing, state_of, stride_of, waits_of}
 use Rattle.drum_replay.proofs.Followed.{as_declared}

@@ -3,8 +3,8 @@ use Rattle.drum_times.specs.Entries.{entry_in}
 use Rattle.drum_machine.specs.Run.{Stride}
 use Rattle.drum_flow.specs.SettingOf.{setting}
 use Rattle.drum_lines.specs.Sent.{IsSent}
-use Rattle.drum_listing.specs.Page.{text_of}
-use Rattle.drum_listing.specs.TraceText.{stride_lines}
+use Rattle.drum_hop_lines.specs.Page.{text_of}
+use Rattle.drum_hop_lines.specs.TraceText.{stride_lines}
 use Rattle.drum_replay.specs.CoverageOf.{HasSeen}
 use Rattle.drum_replay.specs.Following.{IsFollowing, state_of, used_so_far, waits_of}
 use Rattle.drum_replay.proofs.tracing.send_steps.Given as goal

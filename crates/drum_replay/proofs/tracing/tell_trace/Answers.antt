@@ -2,11 +2,11 @@
 -- them, so together they are the reply of a trace. Where a write fails, the reply has gone out in
 -- part, and the status says so.
 use Rattle.std.proofs.Common.{ℕ, List, ◌++◌, append_assoc, arith, inl, inr, refl, subst, sym}
-use Rattle.drum_listing.specs.TraceText.{stride_lines}
 use Rattle.drum_lines.specs.Status.{status_of}
 use Rattle.drum_lines.specs.VerdictText.{verdict_text}
-use Rattle.drum_documents.specs.Documents.{setting_of}
 use Rattle.drum_lines.specs.Output.{GetsResult, device}
+use Rattle.drum_hop_lines.specs.TraceText.{stride_lines}
+use Rattle.drum_documents.specs.Documents.{setting_of}
 use Rattle.drum_replay.specs.Coverage.{coverage_lines}
 use Rattle.drum_replay.specs.RunReply.{cut_reply, trace_reply}
 use Rattle.drum_replay.proofs.Traced.{gets_behind}

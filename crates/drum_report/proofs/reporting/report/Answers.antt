@@ -5,7 +5,7 @@ use Rattle.std.proofs.Common.{◌≡◌, ℕ, List, ◌++◌, flat_map, map, Ok,
 use Rattle.std.proofs.lemmas.Result.{err_from_is_err_and}
 use Rattle.std.specs.Prelude.{codes, decimal}
 use Rattle.drum_deck.specs.declared.deck.Deck.{Deck}
-use Rattle.drum_deck.specs.Loads.{cards_in}
+use Rattle.drum_deck.specs.InDeck.{cards_in}
 use Rattle.drum_times.specs.declared.notes.mark.Mark.{Mark}
 use Rattle.drum_walks.specs.declared.visit.Visit.{Visit}
 use Rattle.drum_walks.specs.Visited.{Visited, AreInTime, seen_visit}

@@ -6,7 +6,7 @@ use Rattle.std.proofs.lemmas.Option.{get_or_from_slice_get, slice_get_within}
 use Rattle.drum_deck.specs.declared.deck.Deck.{Deck}
 use Rattle.drum_core.specs.declared.instruction.Instruction.{Instruction}
 use Rattle.drum_core.specs.declared.op.Op.{Op}
-use Rattle.drum_deck.specs.Loads.{loads_in}
+use Rattle.drum_deck.specs.InDeck.{loads_in}
 use Rattle.drum_times.specs.Allowed.{Notes, allowed}
 use Rattle.drum_times.specs.Entries.{entry_in}
 use Rattle.drum_times.specs.declared.entry.Entry.{Entry}

@@ -3,7 +3,7 @@
 use Rattle.std.proofs.Common.{None, refl, subst, inl, inr, arith}
 use Rattle.std.proofs.lemmas.Result.{err_from_is_err_and}
 use Rattle.drum_documents.specs.Asked.{named_in}
-use Rattle.drum_documents.specs.Files.{AreHeld, AreNotHeld, AreTold, Held}
+use Rattle.drum_documents.specs.Files.{AreHeld, AreNotHeld, AreTold, Contents}
 use Rattle.drum_toml.specs.declared.notes.notes_read.NotesRead.{NotesRead}
 use Rattle.drum_tool.specs.Commands.{read_for}
 use Rattle.drum_lines.specs.Output.{device}
@@ -27,13 +27,13 @@ returns-in_err-documents-clause-does g c =
 pub returns-clause-does : goal.returns-clause-does
 returns-clause-does g c err =
     let documents = c.in_ok-documents.documents in
-    let held : (files : Held) → AreTold (g.S.Source.files c.args.source.now) files (named_in c.args.files)
+    let held : (files : Contents) → AreTold (g.S.Source.files c.args.source.now) files (named_in c.args.files)
     → AreHeld (read_for c.args.question) files documents =
     λ files told. subst (λ (read : NotesRead). AreHeld read files documents) c.read_for.ensures
     (c.in_ok-documents.ensures.held files told) in
     does_as _ _ _ _ _ _ _ _ (λ reply says files told. inl (documents, held files told, refl, says))
     (λ fault is files told. inr (fault, inr (documents, held files told, is), refl, refl))
-    c.answer.result (c.answer.ensures.does err)
+    c.answer_question.result (c.answer_question.ensures.does err)
 
 pub returns-in_err-documents-clause-asked : goal.returns-in_err-documents-clause-asked
 returns-in_err-documents-clause-asked g c =
@@ -44,14 +44,14 @@ returns-in_err-documents-clause-asked g c =
 pub returns-clause-counted : goal.returns-clause-counted
 returns-clause-counted g c =
     let of =
-    faults_as _ _ _ _ _ _ _ (question_of_none c.args.question c.in_ok-documents.documents) c.answer.result
-    (c.answer.ensures.does (device None 0)) in
-    omega (arith, c.in_ok-documents.ensures.counted, unread c.answer.result of)
+    faults_as _ _ _ _ _ _ _ (question_of_none c.args.question c.in_ok-documents.documents) c.answer_question.result
+    (c.answer_question.ensures.does (device None 0)) in
+    omega (arith, c.in_ok-documents.ensures.counted, unread c.answer_question.result of)
 
 pub returns-clause-asked : goal.returns-clause-asked
 returns-clause-asked g c =
     let of =
-    faults_as _ _ _ _ _ _ _ (question_of_none c.args.question c.in_ok-documents.documents) c.answer.result
-    (c.answer.ensures.does (device None 0)) in
+    faults_as _ _ _ _ _ _ _ (question_of_none c.args.question c.in_ok-documents.documents) c.answer_question.result
+    (c.answer_question.ensures.does (device None 0)) in
     of_result (named_in c.args.files) (g.S.Source.asked c.args.source.now) (g.S.Source.asked c.documents_in.new.source)
-    c.answer.result (of_no_part c.answer.result of) c.in_ok-documents.ensures.asked
+    c.answer_question.result (of_no_part c.answer_question.result of) c.in_ok-documents.ensures.asked

@@ -2,7 +2,7 @@ use Rattle.std.proofs.Common.{◌≡◌, ◌&&◌, Bool, true, false, not, [], �
 use Rattle.std.specs.Prelude.{codes}
 use Rattle.drum_command.specs.Line.{NamesFilesOf, begins_with_hyphen, bound}
 use Rattle.drum_lines.specs.declared.fault.Fault.TheVariants as fault
-use Rattle.drum_tool.proofs.ToldOf.{of_files, refused_line}
+use Rattle.drum_tool.proofs.BoundsOfFiles.{of_files, refused_line}
 use Rattle.drum_tool.proofs.laws.bound_is_of_the_files.Goals as goal
 
 -- a word that isn't taken for an option, and others

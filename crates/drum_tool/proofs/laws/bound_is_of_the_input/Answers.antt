@@ -1,6 +1,6 @@
 use Rattle.std.proofs.Common.{refl, inl, inr}
 use Rattle.drum_documents.specs.Joined.{Gives, GivesNone}
-use Rattle.drum_tool.proofs.ToldOf.{reply_of_bound}
+use Rattle.drum_tool.proofs.BoundsOfFiles.{reply_of_bound}
 use Rattle.drum_tool.proofs.laws.bound_is_of_the_input.Goals as goal
 
 pub returns : goal.returns

@@ -1,5 +1,5 @@
 -- Of run: without words the reply is that of run_joined; with words that name a command, that of
--- obey for this command; else that of a refusal of the words. The first reads no file, the others
+-- run_command for this command; else that of a refusal of the words. The first reads no file, the others
 -- don't read the input.
 use Rattle.std.proofs.Common.{◌≡◌, ℕ, refl, sym, subst, arith}
 use Rattle.drum_lines.specs.Reply.{TellsOfReads}
@@ -26,7 +26,7 @@ returns-then-is_empty-clause-told g c =
 
 pub returns-in-Ok-clause-told : goal.returns-in-Ok-clause-told
 returns-in-Ok-clause-told g c =
-    let told = c.obey.ensures.told in (
+    let told = c.run_command.ensures.told in (
       told.0,
       told.1,
       (λ failures count.

@@ -1,5 +1,5 @@
 use Rattle.drum_devices.proofs.Handed.{handed}
-use Rattle.drum_deck.specs.Loads.{loads_in, start_in}
+use Rattle.drum_deck.specs.InDeck.{loads_in, start_in}
 use Rattle.drum_flow.specs.Accepted.{IsAdmitted}
 use Rattle.drum_flow.specs.Flow.{deck_of, executed_in, nodes_of, notes_of}
 use Rattle.drum_flow.specs.Executed.{AreAllNodes}

@@ -1,7 +1,7 @@
 use Rattle.std.proofs.Common.{◌+◌, ◌≤◌, length, ap, arith}
 use Rattle.std.proofs.Math.Bridge.{le_prop}
-use Rattle.drum_bound.specs.Held.{size_of}
-use Rattle.drum_bound.specs.Kept.{pairs_of}
+use Rattle.drum_bound.specs.InCells.{size_of}
+use Rattle.drum_bound.specs.InEntries.{pairs_of}
 use Rattle.drum_bound.proofs.cells.Cells.bar.Goals as goal
 
 pub of-end-requires : goal.of-end-requires

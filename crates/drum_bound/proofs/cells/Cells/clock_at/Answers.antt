@@ -1,11 +1,11 @@
 use Rattle.std.proofs.Common.{◌≡◌, ℕ, List, Option, Some, None, MatchOption}
 use Rattle.std.specs.Prelude.{option_map}
 use Rattle.drum_bound.specs.declared.latest.Latest.{Latest}
-use Rattle.drum_bound.specs.Held.{kept_in}
-use Rattle.drum_bound.specs.Kept.{kept_of}
+use Rattle.drum_bound.specs.InCells.{kept_in}
+use Rattle.drum_bound.specs.InEntries.{kept_of}
 use Rattle.drum_bound.specs.Scanned.{cell_at}
 use Rattle.drum_bound.specs.SearchOf.{KeepsAt}
-use Rattle.drum_bound.proofs.HeldLaws.{kept_is}
+use Rattle.drum_bound.proofs.InCellsLaws.{kept_is}
 use Rattle.drum_bound.proofs.cells.Cells.clock_at.Goals as goal
 
 -- the clock of what is kept

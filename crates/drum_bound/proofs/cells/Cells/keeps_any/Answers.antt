@@ -1,7 +1,7 @@
 use Rattle.std.proofs.Common.{◌≡◌, Bool, Some, length, refl, ap, ◌∙◌, arith}
 use Rattle.std.specs.Prelude.{slice_get}
 use Rattle.std.proofs.lemmas.Option.{slice_get_read}
-use Rattle.drum_bound.proofs.HeldLaws.{unnoted}
+use Rattle.drum_bound.proofs.InCellsLaws.{unnoted}
 use Rattle.drum_bound.proofs.cells.Cells.keeps_any.Goals as goal
 
 pub returns : goal.returns

@@ -1,5 +1,5 @@
 use Rattle.std.proofs.Common.{sym, ◌∙◌}
-use Rattle.drum_bound.proofs.HeldLaws.{kept_is}
+use Rattle.drum_bound.proofs.InCellsLaws.{kept_is}
 use Rattle.drum_bound.proofs.cells.Cells.kept_at.Goals as goal
 
 pub returns : goal.returns

@@ -7,8 +7,8 @@ use Rattle.std.proofs.lemmas.List.{length-replicate, length-set}
 use Rattle.std.proofs.lemmas.Nat.{div_below}
 use Rattle.drum_order.proofs.Lists.{contains_cases, contains_none, get_written}
 use Rattle.drum_bound.specs.declared.worst.Worst.{Worst}
-use Rattle.drum_bound.specs.Kept.{first_entry, pairs_of}
-use Rattle.drum_bound.proofs.HeldLaws.{first_is}
+use Rattle.drum_bound.specs.InEntries.{first_entry, pairs_of}
+use Rattle.drum_bound.proofs.InCellsLaws.{first_is}
 use Rattle.drum_bound.proofs.cells.Cells.new.Goals as goal
 
 -- the one key is the start's

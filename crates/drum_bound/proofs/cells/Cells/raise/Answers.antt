@@ -5,11 +5,11 @@ use Rattle.std.proofs.Common.{◌*◌, Some, true, ap, ◌∙◌, arith}
 use Rattle.std.proofs.lemmas.List.{length-set}
 use Rattle.drum_machine.specs.WaysLeft.{seen_way}
 use Rattle.drum_bound.specs.declared.latest.Latest.{Latest}
-use Rattle.drum_bound.specs.Kept.{kept_of, pairs_of}
+use Rattle.drum_bound.specs.InEntries.{kept_of, pairs_of}
 use Rattle.drum_bound.specs.Scanned.{later_than}
 use Rattle.drum_bound.specs.SearchOf.{end_sought}
 use Rattle.drum_bound.proofs.EntryKeys.{entries_few}
-use Rattle.drum_bound.proofs.HeldLaws.{clock_after, raised_entries, raised_is, raised_noted}
+use Rattle.drum_bound.proofs.InCellsLaws.{clock_after, raised_entries, raised_is, raised_noted}
 use Rattle.drum_flow.proofs.LongestLaws.{longest_later}
 use Rattle.drum_bound.proofs.cells.Cells.raise.Goals as goal
 

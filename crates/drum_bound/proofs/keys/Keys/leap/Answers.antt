@@ -3,7 +3,7 @@
 -- targets of its hops.
 use Rattle.std.proofs.Common.{◌≡◌, ◌⊎◌, ℕ, ◌+◌, ◌-◌, Some, ap, sym, ◌∙◌, subst, inl, inr, refl, arith}
 use Rattle.std.specs.Prelude.{Contains}
-use Rattle.drum_deck.specs.Loads.{loads_in}
+use Rattle.drum_deck.specs.InDeck.{loads_in}
 use Rattle.drum_times.specs.Entries.{entry_in}
 use Rattle.drum_times.specs.Marks.{mark_on}
 use Rattle.drum_machine.specs.Ways.{Way, early, to, late}

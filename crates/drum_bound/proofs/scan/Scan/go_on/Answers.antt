@@ -4,7 +4,7 @@
 use Rattle.std.proofs.Common.{◌+◌, inl, inr, ap, sym, ◌∙◌, subst, arith}
 use Rattle.drum_flow.specs.Walk.{Setting}
 use Rattle.drum_bound.specs.declared.cells.Cells.{Cells}
-use Rattle.drum_bound.specs.Held.{kept_in}
+use Rattle.drum_bound.specs.InCells.{kept_in}
 use Rattle.drum_bound.specs.Keys.{place_at}
 use Rattle.drum_bound.specs.RowOf.{counts_number}
 use Rattle.drum_bound.specs.ScanOf.{setting_in, order_of, AreCells, Goes}

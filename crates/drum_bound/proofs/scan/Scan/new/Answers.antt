@@ -1,7 +1,7 @@
 -- Of Scan::new: the start's key alone keeps something, the moment of the start. So this is what is
 -- known before any key has been taken.
 use Rattle.std.proofs.Common.{◌≡◌, ℕ, ◌*◌, List, length, Option, None, set, replicate, Some, ap, sym, ◌∙◌, refl, subst}
-use Rattle.drum_deck.specs.Loads.{start_in}
+use Rattle.drum_deck.specs.InDeck.{start_in}
 use Rattle.drum_flow.specs.Flow.{deck_of}
 use Rattle.drum_acceptance.specs.AcceptedFlow.{in_order}
 use Rattle.drum_bound.specs.declared.latest.Latest.{Latest}
@@ -13,7 +13,7 @@ use Rattle.drum_bound.proofs.EntriesRaised.{number_none}
 use Rattle.drum_bound.specs.Scanned.{Scanned}
 use Rattle.drum_bound.proofs.Begun.{begun}
 use Rattle.drum_bound.proofs.Nodes.{as_long}
-use Rattle.drum_bound.specs.Held.{kept_in}
+use Rattle.drum_bound.specs.InCells.{kept_in}
 use Rattle.drum_bound.proofs.scan.Scan.new.Goals as goal
 
 pub returns-clause-scanned : goal.returns-clause-scanned

@@ -9,7 +9,7 @@ use Rattle.drum_machine.specs.WaysLeft.{seen_way}
 use Rattle.drum_flow.specs.Seen.{seen_hop}
 use Rattle.drum_flow.specs.Walk.{Setting}
 use Rattle.drum_bound.specs.declared.cells.Cells.{Cells}
-use Rattle.drum_bound.specs.Held.{kept_in}
+use Rattle.drum_bound.specs.InCells.{kept_in}
 use Rattle.drum_bound.specs.Scanned.{cell_at, later, Taking}
 use Rattle.drum_bound.specs.ScanOf.{setting_in, order_of, AreCells}
 use Rattle.drum_bound.specs.SearchOf.{end_sought, hop_sought}

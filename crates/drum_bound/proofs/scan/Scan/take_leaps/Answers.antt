@@ -11,8 +11,8 @@ use Rattle.drum_flow.specs.Hops.{Hop}
 use Rattle.drum_flow.proofs.FromAngles.{found_angle}
 use Rattle.drum_bound.specs.declared.leap.Leap.{Leap}
 use Rattle.drum_bound.specs.declared.scan.Scan.{Scan}
-use Rattle.drum_bound.specs.declared.search.Search.{Search}
-use Rattle.drum_bound.specs.Held.{kept_in}
+use Rattle.drum_bound.specs.declared.instruction_search.InstructionSearch.{InstructionSearch}
+use Rattle.drum_bound.specs.InCells.{kept_in}
 use Rattle.drum_bound.specs.Keys.{place_at}
 use Rattle.drum_bound.specs.LeapOf.{AreLeaps, IsLeap, leap_hop}
 use Rattle.drum_bound.specs.ScanOf.{setting_in, order_of, IsScanned}
@@ -29,7 +29,7 @@ hop_is scan key number leaps leap same at =
     ∙ ap (option_map leap_hop) at
 
 -- and begins at the angle at which the instruction is found
-leap_is : (scan : Scan) (search : Search) (leaps : List Leap) (leap : Leap)
+leap_is : (scan : Scan) (search : InstructionSearch) (leaps : List Leap) (leap : Leap)
     → AreLeaps (setting_in scan) (order_of scan) (place_at (order_of scan) search.key) leaps → Contains leaps leap
     → IsSearch (order_of scan) (kept_in scan.cells) search
     → IsLeap (setting_in scan) (order_of scan) (place_at (order_of scan) search.key) (search.found % 50) leap

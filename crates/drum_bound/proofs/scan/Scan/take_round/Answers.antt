@@ -10,7 +10,7 @@ use Rattle.drum_bound.specs.RoundOf.{IsRound}
 use Rattle.drum_bound.specs.ScanOf.{setting_in, order_of, IsScanned}
 use Rattle.drum_bound.proofs.KeysTaken.{skipped_all}
 use Rattle.drum_bound.proofs.RoundLaws.{round_first}
-use Rattle.drum_bound.specs.Held.{size_of}
+use Rattle.drum_bound.specs.InCells.{size_of}
 use Rattle.drum_bound.specs.Keys.{keys_of}
 use Rattle.drum_bound.proofs.RowsHeld.{cells_size}
 use Rattle.drum_bound.proofs.Nodes.{as_long}

@@ -15,7 +15,7 @@ use Rattle.drum_bound.specs.Table.{start_angle}
 use Rattle.drum_bound.proofs.Finished.{is_ordered, starts_on_drum}
 use Rattle.drum_bound.proofs.Traces.{IsTraced, begins_before, falls, key_after, origin_kept, passes_more, trace_more}
 use Rattle.drum_bound.proofs.Traces.{trace_longest, trace_whole}
-use Rattle.drum_bound.specs.Held.{kept_in}
+use Rattle.drum_bound.specs.InCells.{kept_in}
 use Rattle.drum_bound.proofs.scan.Scan.walk.Goals as goal
 
 pub visit-visit-requires-clause-from : goal.visit-visit-requires-clause-from

@@ -2,7 +2,7 @@ use Rattle.std.proofs.Common.{◌≡◌, ℕ, ◌+◌, ◌%◌, ◌≤◌, lengt
 use Rattle.std.specs.Prelude.{slice_index}
 use Rattle.drum_walks.specs.Visited.{seen_visit}
 use Rattle.drum_bound.specs.AnalysisOf.{ArePasses}
-use Rattle.drum_bound.specs.Held.{kept_in}
+use Rattle.drum_bound.specs.InCells.{kept_in}
 use Rattle.drum_bound.specs.KeysOf.{marks_in}
 use Rattle.drum_bound.specs.ScanOf.{order_of, setting_in, size_in}
 use Rattle.drum_bound.proofs.Traces.{IsTraced, key_after}

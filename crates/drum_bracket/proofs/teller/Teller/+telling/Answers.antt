@@ -9,7 +9,7 @@ use Rattle.std.specs.Prelude.{OnOk}
 use Rattle.drum_walks.specs.declared.piece.Piece.{Piece}
 use Rattle.drum_walks.specs.Pieces.{spelled_of}
 use Rattle.drum_bracket.specs.ProgressOf.{held_by, sent_by, told_of, HasAdded, HasMoved, HasTold, MayTell}
-use Rattle.drum_bracket.specs.RoundsText.{at_time, both, end_line, end_rounds_line, first_place, last_place, rounds_line, Telling, Told}
+use Rattle.drum_bracket.specs.RoundsText.{at_time, both, end_line, end_rounds_line, first_place, last_place, rounds_line, Telling, PartsSoFar}
 use Rattle.drum_bracket.specs.TellerOf.{named_told, piece_told, pieces_in, row_told}
 use Rattle.drum_bracket.proofs.Tellings.{named_beyond, named_part, named_plain, part_read, piece_read, row_is_told}
 use Rattle.drum_bracket.proofs.Tellings.{rounds_each, rounds_fit, rounds_later, rounds_split, row_all, row_at, row_later, row_more}
@@ -81,7 +81,7 @@ first-returns-clause-lines g t c =
     c.in_ok-pass.ensures.moved.same ∙ c.begin.ensures.told in
     then_lines (both (begin_part c.args.number) tell) (end_part (suc old.begun)) was soon now old later
     (sent_by c.pass-2.result new.sent) (held_by new)
-    (c.in_ok-piece.ensures.told.now ∙ ap (λ (u : Told). (tell u).1) moved)
+    (c.in_ok-piece.ensures.told.now ∙ ap (λ (u : PartsSoFar). (tell u).1) moved)
     (then_lines (begin_part c.args.number) tell was mid soon old between (Ok later.sent) (held_by later) moved
     (begun_lines c.args.number old begun c.begin.ensures.told c.begin.ensures.page c.begin.ensures.sent was mid
     (Ok between.sent) (held_by between) c.in_ok-pass.ensures.lines) c.in_ok-piece.ensures.lines)
@@ -107,7 +107,7 @@ first-returns-clause-told g t c =
     (then_told (begin_part c.args.number) tell was mid soon old between later
     (begun_told c.args.number old begun c.begin.ensures.told c.begin.ensures.page c.begin.ensures.sent was mid between
     c.begin.ensures.parts c.in_ok-pass.ensures.moved) c.in_ok-piece.ensures.told)
-    (lineup_told (λ (u : Told). end_line (suc old.begun)) (λ (u : Told). u) soon now later later new refl
+    (lineup_told (λ (u : PartsSoFar). end_line (suc old.begun)) (λ (u : PartsSoFar). u) soon now later later new refl
     (omega arith) refl refl moved))
     c.pass-2.ensures.moved
 
@@ -116,7 +116,7 @@ named-returns-then-number-limit-clause-lines g t c =
     let old = c.args.progress.now in
     let was = g.O.Output.written c.args.writer.now in
     let is = named_beyond c.args.self.now c.args.limit c.args.number (told_of old) c.requires.within c.if-number-limit.true in
-    subst (λ (x : List (List ℕ) × Told). HasAdded was was old.sent (held_by old) (Ok old.sent) (held_by old) x.0) (sym is)
+    subst (λ (x : List (List ℕ) × PartsSoFar). HasAdded was was old.sent (held_by old) (Ok old.sent) (held_by old) x.0) (sym is)
     (added_none was old.sent (held_by old))
 
 pub named-returns-then-number-limit-clause-told : goal.named-returns-then-number-limit-clause-told
@@ -151,7 +151,7 @@ named-returns-then-not-is_part-clause-lines g t c =
     c.pieces.ensures (omega (arith, c.if-number-limit.false, c.requires.within)) c.index-pieces-number.is in
     let is = named_plain c.args.self.now c.args.limit c.args.number c.index-pieces-number.result (told_of old)
     c.if-number-limit.false at (sym c.if-not-is_part.ensures) in
-    subst (λ (x : List (List ℕ) × Told). HasAdded (g.O.Output.written c.args.writer.now) (g.O.Output.written c.piece.new.writer)
+    subst (λ (x : List (List ℕ) × PartsSoFar). HasAdded (g.O.Output.written c.args.writer.now) (g.O.Output.written c.piece.new.writer)
     old.sent (held_by old) (sent_by c.piece.result new.sent) (held_by new) x.0) (sym is) c.piece.ensures.lines
 
 pub named-returns-then-not-is_part-clause-told : goal.named-returns-then-not-is_part-clause-told
@@ -161,7 +161,7 @@ named-returns-then-not-is_part-clause-told g t c =
     c.pieces.ensures (omega (arith, c.if-number-limit.false, c.requires.within)) c.index-pieces-number.is in
     let is = named_plain c.args.self.now c.args.limit c.args.number c.index-pieces-number.result (told_of old)
     c.if-number-limit.false at (sym c.if-not-is_part.ensures) in
-    subst (λ (x : List (List ℕ) × Told). OnOk c.piece.result (HasTold (g.O.Output.called c.args.writer.now)
+    subst (λ (x : List (List ℕ) × PartsSoFar). OnOk c.piece.result (HasTold (g.O.Output.called c.args.writer.now)
     (g.O.Output.called c.piece.new.writer) old c.piece.new.progress x)) (sym is) c.piece.ensures.told
 
 pub named-first-requires : goal.named-first-requires
@@ -210,7 +210,7 @@ named-returns-in-None-clause-lines g t c =
     (omega (arith, less, c.requires.may.parts)) c.index.ensures c.in-None.is in
     let is = named_part c.args.self.now c.args.limit c.args.number c.index-pieces-number.result (told_of old)
     c.if-number-limit.false at None (sym c.if-not-is_part.ensures) part in
-    subst (λ (x : List (List ℕ) × Told). HasAdded (g.O.Output.written c.args.writer.now) (g.O.Output.written c.first.new.writer)
+    subst (λ (x : List (List ℕ) × PartsSoFar). HasAdded (g.O.Output.written c.args.writer.now) (g.O.Output.written c.first.new.writer)
     old.sent (held_by old) (sent_by c.first.result new.sent) (held_by new) x.0) (sym is) c.first.ensures.lines
 
 pub named-returns-in-None-clause-told : goal.named-returns-in-None-clause-told
@@ -224,7 +224,7 @@ named-returns-in-None-clause-told g t c =
     (omega (arith, less, c.requires.may.parts)) c.index.ensures c.in-None.is in
     let is = named_part c.args.self.now c.args.limit c.args.number c.index-pieces-number.result (told_of old)
     c.if-number-limit.false at None (sym c.if-not-is_part.ensures) part in
-    subst (λ (x : List (List ℕ) × Told). OnOk c.first.result (HasTold (g.O.Output.called c.args.writer.now)
+    subst (λ (x : List (List ℕ) × PartsSoFar). OnOk c.first.result (HasTold (g.O.Output.called c.args.writer.now)
     (g.O.Output.called c.first.new.writer) old c.first.new.progress x)) (sym is) c.first.ensures.told
 
 pub named-returns-in-Some-clause-lines : goal.named-returns-in-Some-clause-lines
@@ -239,7 +239,7 @@ named-returns-in-Some-clause-lines g t c =
     (omega (arith, less, c.requires.may.parts)) c.index.ensures c.in-Some.is in
     let is = named_part c.args.self.now c.args.limit c.args.number c.index-pieces-number.result (told_of old)
     c.if-number-limit.false at (Some c.in-Some.part) (sym c.if-not-is_part.ensures) part in
-    subst (λ (x : List (List ℕ) × Told). HasAdded (g.O.Output.written c.args.writer.now) (g.O.Output.written c.again.new.writer)
+    subst (λ (x : List (List ℕ) × PartsSoFar). HasAdded (g.O.Output.written c.args.writer.now) (g.O.Output.written c.again.new.writer)
     old.sent (held_by old) (sent_by c.again.result new.sent) (held_by new) x.0) (sym is) c.again.ensures.lines
 
 pub named-returns-in-Some-clause-told : goal.named-returns-in-Some-clause-told
@@ -253,7 +253,7 @@ named-returns-in-Some-clause-told g t c =
     (omega (arith, less, c.requires.may.parts)) c.index.ensures c.in-Some.is in
     let is = named_part c.args.self.now c.args.limit c.args.number c.index-pieces-number.result (told_of old)
     c.if-number-limit.false at (Some c.in-Some.part) (sym c.if-not-is_part.ensures) part in
-    subst (λ (x : List (List ℕ) × Told). OnOk c.again.result (HasTold (g.O.Output.called c.args.writer.now)
+    subst (λ (x : List (List ℕ) × PartsSoFar). OnOk c.again.result (HasTold (g.O.Output.called c.args.writer.now)
     (g.O.Output.called c.again.new.writer) old c.again.new.progress x)) (sym is) c.again.ensures.told
 
 pub piece-row-requires : goal.piece-row-requires
@@ -285,7 +285,7 @@ piece-returns-in-Row-clause-lines g t c =
     let new = c.row.new.progress in
     let is = row_is_told c.args.self.now c.args.number c.args.piece.now c.in-Row.names c.deref.result.now (told_of old)
     c.in-Row.is c.deref.ensures.value in
-    subst (λ (x : List (List ℕ) × Told). HasAdded (g.O.Output.written c.args.writer.now) (g.O.Output.written c.row.new.writer)
+    subst (λ (x : List (List ℕ) × PartsSoFar). HasAdded (g.O.Output.written c.args.writer.now) (g.O.Output.written c.row.new.writer)
     old.sent (held_by old) (sent_by c.row.result new.sent) (held_by new) x.0) (sym is) c.row.ensures.lines
 
 pub piece-returns-in-Row-clause-told : goal.piece-returns-in-Row-clause-told
@@ -293,7 +293,7 @@ piece-returns-in-Row-clause-told g t c =
     let old = c.args.progress.now in
     let is = row_is_told c.args.self.now c.args.number c.args.piece.now c.in-Row.names c.deref.result.now (told_of old)
     c.in-Row.is c.deref.ensures.value in
-    subst (λ (x : List (List ℕ) × Told). OnOk c.row.result (HasTold (g.O.Output.called c.args.writer.now)
+    subst (λ (x : List (List ℕ) × PartsSoFar). OnOk c.row.result (HasTold (g.O.Output.called c.args.writer.now)
     (g.O.Output.called c.row.new.writer) old c.row.new.progress x)) (sym is) c.row.ensures.told
 
 pub rounds-returns-in_err-pass-clause-lines : goal.rounds-returns-in_err-pass-clause-lines
@@ -315,7 +315,7 @@ rounds-returns-in_err-pass-clause-lines g t c =
     (rounds_line rounds.times c.last_and_first-last.result.0 n ∷ [])) c.last_and_first-last.ensures.first
     c.in_err-pass.ensures.lines) in
     let p = err_from_is_err_and c.from_residual.result c.from_residual.ensures.1 in
-    rw (p.1, p.2) (subst (λ (x : List (List ℕ) × Told). HasAdded was now old.sent (held_by old) (Err fault) after x.0)
+    rw (p.1, p.2) (subst (λ (x : List (List ℕ) × PartsSoFar). HasAdded was now old.sent (held_by old) (Err fault) after x.0)
     (sym (rounds_split self c.args.limit rounds (told_of old) each ended refl refl))
     (cut_first (begin_rounds rounds.times (last_place hops) (first_place hops)) tell (end_rounds each ended)
     (told_of old) was now old.sent fault (held_by old) after after line))
@@ -340,7 +340,7 @@ rounds-named-requires g t c =
     may_then begin tell was now count old mid
     (may_first (both begin tell) (end_rounds each ended) was count old
     (rounds_later rounds old.time (tell (told_of old)).1.time each ended refl refl) all)
-    (lineup_told (λ (u : Told). rounds_line rounds.times (last_place hops) (first_place hops)) (λ (u : Told). u) was now
+    (lineup_told (λ (u : PartsSoFar). rounds_line rounds.times (last_place hops) (first_place hops)) (λ (u : PartsSoFar). u) was now
     old old mid refl (omega arith) refl refl
     c.in_ok-pass.ensures.moved) in
     λ κs sub. (search rules, (search rules, (c.requires.teller, (c.requires.within, may))))
@@ -367,7 +367,7 @@ rounds-returns-in_err-named-clause-lines g t c =
     (rounds_line rounds.times c.last_and_first-last.result.0 n ∷ [])) c.last_and_first-last.ensures.first
     c.in_ok-pass.ensures.lines) in
     let p = err_from_is_err_and c.from_residual-in_err-named.result c.from_residual-in_err-named.ensures.1 in
-    rw (p.1, p.2) (subst (λ (x : List (List ℕ) × Told). HasAdded was now old.sent (held_by old) (Err fault) after x.0)
+    rw (p.1, p.2) (subst (λ (x : List (List ℕ) × PartsSoFar). HasAdded was now old.sent (held_by old) (Err fault) after x.0)
     (sym (rounds_split self c.args.limit rounds (told_of old) each ended refl refl))
     (cut_second begin tell (end_rounds each ended) was mid now old between fault after after
     c.in_ok-pass.ensures.moved.same line c.in_err-named.ensures.lines))
@@ -409,7 +409,7 @@ rounds-pass-requires-2 g t c =
     let all = subst (MayTell was count old)
     (rounds_split self c.args.limit rounds (told_of old) each ended refl refl) c.requires.may in
     let first = then_told begin tell was mid soon old between later
-    (lineup_told (λ (u : Told). rounds_line rounds.times (last_place hops) (first_place hops)) (λ (u : Told). u) was mid
+    (lineup_told (λ (u : PartsSoFar). rounds_line rounds.times (last_place hops) (first_place hops)) (λ (u : PartsSoFar). u) was mid
     old old between refl (omega arith) refl refl
     c.in_ok-pass.ensures.moved) c.in_ok-named.ensures.told in
     let may = may_then (both begin tell) (end_rounds each ended) was soon count old later all first in
@@ -443,10 +443,10 @@ rounds-returns-clause-lines g t c =
     (end_rounds_line each (old.time + n * each) ∷ [])) c.from.ensures c.pass-2.ensures.lines in
     let real = rounds_each self c.args.limit rounds old between later each same c.in_ok-named.ensures.told.now
     c.saturating_sub-each.ensures in
-    subst (λ (x : List (List ℕ) × Told). HasAdded was now old.sent (held_by old) result (held_by new) x.0)
+    subst (λ (x : List (List ℕ) × PartsSoFar). HasAdded was now old.sent (held_by old) result (held_by new) x.0)
     (sym (rounds_split self c.args.limit rounds (told_of old) each ended real refl))
     (then_lines (both begin tell) (end_rounds each ended) was soon now old later result (held_by new)
-    (c.in_ok-named.ensures.told.now ∙ ap (λ (u : Told). (tell u).1) same)
+    (c.in_ok-named.ensures.told.now ∙ ap (λ (u : PartsSoFar). (tell u).1) same)
     (then_lines begin tell was mid soon old between (Ok later.sent) (held_by later) same line
     c.in_ok-named.ensures.lines) last)
 
@@ -472,17 +472,17 @@ rounds-returns-clause-told g t c =
     let real = rounds_each self c.args.limit rounds old between later each same c.in_ok-named.ensures.told.now
     c.saturating_sub-each.ensures in
     let first = then_told begin tell was mid soon old between later
-    (lineup_told (λ (u : Told). rounds_line rounds.times (last_place hops) (first_place hops)) (λ (u : Told). u) was mid
+    (lineup_told (λ (u : PartsSoFar). rounds_line rounds.times (last_place hops) (first_place hops)) (λ (u : PartsSoFar). u) was mid
     old old between refl (omega arith) refl refl
     c.in_ok-pass.ensures.moved) c.in_ok-named.ensures.told in
     let stands : at_time stopped (told_of later) ≡ at_time ended (told_of later) =
     ap (λ (n : ℕ). at_time (old.time + n * each) (told_of later)) c.from.ensures in
-    subst (λ (x : List (List ℕ) × Told). OnOk c.pass-2.result (HasTold was now old new x))
+    subst (λ (x : List (List ℕ) × PartsSoFar). OnOk c.pass-2.result (HasTold was now old new x))
     (sym (rounds_split self c.args.limit rounds (told_of old) each ended real refl))
     (on_ok c.pass-2.result
     (λ (moved : HasMoved soon now (record later { time = stopped }) new).
     then_told (both begin tell) (end_rounds each ended) was soon now old later new first
-    (lineup_told (λ (u : Told). end_rounds_line each ended) (at_time ended) soon now later
+    (lineup_told (λ (u : PartsSoFar). end_rounds_line each ended) (at_time ended) soon now later
     (record later { time = stopped }) new refl (omega arith) refl stands moved))
     c.pass-2.ensures.moved)
 
@@ -494,7 +494,7 @@ row-loop-number-init g t c =
     let none = sym (row_none c.args.self.now c.args.limit (told_of old)) in
     record {
       lines =
-          subst (λ (x : List (List ℕ) × Told). HasAdded was was old.sent (held_by old) (Ok old.sent) (held_by old) x.0) none
+          subst (λ (x : List (List ℕ) × PartsSoFar). HasAdded was was old.sent (held_by old) (Ok old.sent) (held_by old) x.0) none
           (added_none was old.sent (held_by old));
       told = subst (HasTold called called old old) none (none_told called old);
       failures = refl;
@@ -516,7 +516,7 @@ row-loop-number-preserved g t c =
     let now = g.O.Output.written c.named.new.writer in
     record {
       lines =
-          subst (λ (x : List (List ℕ) × Told). HasAdded was now old.sent (held_by old) (Ok new.sent) (held_by new) x.0) more
+          subst (λ (x : List (List ℕ) × PartsSoFar). HasAdded was now old.sent (held_by old) (Ok new.sent) (held_by new) x.0) more
           (then_lines one other was (g.O.Output.written c.loop-number.writer) now old between (Ok new.sent) (held_by new)
           so_far.told.now so_far.lines c.in_ok-named.ensures.lines);
       told =
@@ -564,7 +564,7 @@ row-returns-in_err-named-clause-lines g t c =
     let after = held_by c.named.new.progress in
     let next = other (told_of between) in
     let p = err_from_is_err_and c.from_residual.result c.from_residual.ensures.1 in
-    rw (p.1, p.2) (subst (λ (x : List (List ℕ) × Told). HasAdded was now old.sent (held_by old) (Err fault) after x.0)
+    rw (p.1, p.2) (subst (λ (x : List (List ℕ) × PartsSoFar). HasAdded was now old.sent (held_by old) (Err fault) after x.0)
     (sym (row_at self c.args.limit names i (told_of old) c.loop-number-test.true))
     (then_lines one (both other rest) was mid now old between (Err fault) after c.loop-number.invariant.told.now
     c.loop-number.invariant.lines
@@ -580,7 +580,7 @@ pub row-returns-clause-lines : goal.row-returns-clause-lines
 row-returns-clause-lines g t c =
     let old = c.args.progress.now in
     let new = c.loop-number.progress in
-    subst (λ (x : List (List ℕ) × Told). HasAdded (g.O.Output.written c.args.writer.now)
+    subst (λ (x : List (List ℕ) × PartsSoFar). HasAdded (g.O.Output.written c.args.writer.now)
     (g.O.Output.written c.loop-number.writer) old.sent (held_by old) (Ok new.sent) (held_by new) x.0)
     (row_all c.args.self.now c.args.limit c.args.names.now c.loop-number.number-index (told_of old)
     c.loop-number-test.false) c.loop-number.invariant.lines

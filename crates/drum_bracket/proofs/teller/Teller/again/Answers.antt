@@ -1,7 +1,7 @@
 use Rattle.std.proofs.Common.{◌+◌, ℕ, List, Err, Ok, sym, subst, arith}
 use Rattle.std.proofs.lemmas.Result.{err_from_is_err_and}
 use Rattle.drum_bracket.specs.ProgressOf.{held_by, told_of, HasAdded}
-use Rattle.drum_bracket.specs.RoundsText.{again_line, part_again, Told}
+use Rattle.drum_bracket.specs.RoundsText.{again_line, part_again, PartsSoFar}
 use Rattle.drum_bracket.specs.TellerOf.{piece_told}
 use Rattle.drum_bracket.proofs.Passing.{line_told}
 use Rattle.drum_bracket.proofs.Tellings.{again_is_told, piece_lasts}
@@ -20,7 +20,7 @@ returns-in_err-pass-clause-lines g c =
     let p = err_from_is_err_and c.from_residual.result c.from_residual.ensures.1 in
     let is = again_is_told c.args.self.now c.args.number c.args.part c.args.piece.now c.lasting.result
     (told_of c.args.progress.now) c.requires.teller c.requires.is c.lasting.ensures in
-    rw (p.1, p.2) (subst (λ (t : List (List ℕ) × Told). HasAdded (g.O.Output.written c.args.writer.now)
+    rw (p.1, p.2) (subst (λ (t : List (List ℕ) × PartsSoFar). HasAdded (g.O.Output.written c.args.writer.now)
     (g.O.Output.written c.pass.new.writer) c.args.progress.now.sent (held_by c.args.progress.now)
     (Err c.in_err-pass.field-0.0) (held_by c.pass.new.self) t.0) (sym is) c.in_err-pass.ensures.lines)
 
@@ -28,7 +28,7 @@ pub returns-clause-lines : goal.returns-clause-lines
 returns-clause-lines g c =
     let is = again_is_told c.args.self.now c.args.number c.args.part c.args.piece.now c.lasting.result
     (told_of c.args.progress.now) c.requires.teller c.requires.is c.lasting.ensures in
-    subst (λ (t : List (List ℕ) × Told). HasAdded (g.O.Output.written c.args.writer.now)
+    subst (λ (t : List (List ℕ) × PartsSoFar). HasAdded (g.O.Output.written c.args.writer.now)
     (g.O.Output.written c.pass.new.writer) c.args.progress.now.sent (held_by c.args.progress.now)
     (Ok c.pass.new.self.sent) (held_by c.pass.new.self) t.0) (sym is) c.in_ok-pass.ensures.lines
 

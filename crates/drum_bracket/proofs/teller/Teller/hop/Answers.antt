@@ -4,7 +4,7 @@ use Rattle.drum_times.specs.Entries.{entry_in}
 use Rattle.drum_walks.specs.declared.piece.Piece.TheVariants as piece
 use Rattle.drum_walks.specs.Pieces.{seen_placed}
 use Rattle.drum_bracket.specs.ProgressOf.{held_by, told_of, HasAdded}
-use Rattle.drum_bracket.specs.RoundsText.{placed_line, Told}
+use Rattle.drum_bracket.specs.RoundsText.{placed_line, PartsSoFar}
 use Rattle.drum_bracket.specs.TellerOf.{piece_told}
 use Rattle.drum_bracket.proofs.Passing.{line_told}
 use Rattle.drum_bracket.proofs.Tellings.{hop_is_told, piece_lasts}
@@ -33,7 +33,7 @@ returns-in_err-pass-clause-lines g c =
     let p = err_from_is_err_and c.from_residual.result c.from_residual.ensures.1 in
     let is = hop_is_told c.args.self.now c.args.number c.args.one c.lasting.result (told_of c.args.progress.now)
     c.requires.teller c.requires.is c.lasting.ensures in
-    rw (p.1, p.2) (subst (λ (t : List (List ℕ) × Told). HasAdded (g.O.Output.written c.args.writer.now)
+    rw (p.1, p.2) (subst (λ (t : List (List ℕ) × PartsSoFar). HasAdded (g.O.Output.written c.args.writer.now)
     (g.O.Output.written c.pass.new.writer) c.args.progress.now.sent (held_by c.args.progress.now)
     (Err c.in_err-pass.field-0.0) (held_by c.pass.new.self) t.0) (sym is) c.in_err-pass.ensures.lines)
 
@@ -41,7 +41,7 @@ pub returns-clause-lines : goal.returns-clause-lines
 returns-clause-lines g c =
     let is = hop_is_told c.args.self.now c.args.number c.args.one c.lasting.result (told_of c.args.progress.now)
     c.requires.teller c.requires.is c.lasting.ensures in
-    subst (λ (t : List (List ℕ) × Told). HasAdded (g.O.Output.written c.args.writer.now)
+    subst (λ (t : List (List ℕ) × PartsSoFar). HasAdded (g.O.Output.written c.args.writer.now)
     (g.O.Output.written c.pass.new.writer) c.args.progress.now.sent (held_by c.args.progress.now)
     (Ok c.pass.new.self.sent) (held_by c.pass.new.self) t.0) (sym is) c.in_ok-pass.ensures.lines
 

@@ -9,10 +9,10 @@ use Rattle.drum_times.specs.Entries.{entry_in}
 use Rattle.drum_flow.specs.SettingOf.{setting}
 use Rattle.drum_walks.specs.Pieces.{spelled}
 use Rattle.drum_rounds.specs.InRounds.{angle_of, often_of, pieces_of}
-use Rattle.drum_listing.specs.WaitsOf.{waited_of}
-use Rattle.drum_listing.specs.WaitsText.{wait_line}
-use Rattle.drum_listing.proofs.KindRows.{dearest_sorted, sort_key}
-use Rattle.drum_listing.proofs.SameKinds.{reordered_same, unique_same}
+use Rattle.drum_hop_lines.specs.KindsOf.{waited_of}
+use Rattle.drum_hop_lines.specs.WaitsText.{wait_line}
+use Rattle.drum_hop_lines.proofs.KindRows.{dearest_sorted, sort_key}
+use Rattle.drum_hop_lines.proofs.SameKinds.{reordered_same, unique_same}
 use Rattle.drum_bracket.specs.RoundsWaitsOf.{is_of, row_text, waited_over, AreRows, IsRowOf}
 use Rattle.drum_bracket.proofs.Laid.{are_laid}
 use Rattle.drum_bracket.proofs.RoundsWaitsFound.{dearest_first, first_visit, number_in, row_short, rows_lines, time_in}

@@ -7,9 +7,9 @@ use Rattle.drum_times.specs.Entries.{entry_in}
 use Rattle.drum_walks.specs.declared.piece.Placed.{Placed}
 use Rattle.drum_walks.specs.Pieces.{seen_placed}
 use Rattle.drum_rounds.specs.InRounds.{often_of, pieces_of}
-use Rattle.drum_listing.specs.declared.waits.kind.Kind.{Kind}
-use Rattle.drum_listing.specs.WaitsOf.{same_kind}
-use Rattle.drum_listing.proofs.SameKinds.{get_same, same_kind_equiv, unique_same, update_same}
+use Rattle.drum_hop_lines.specs.declared.kind.Kind.{Kind}
+use Rattle.drum_hop_lines.specs.KindsOf.{same_kind}
+use Rattle.drum_hop_lines.proofs.SameKinds.{get_same, same_kind_equiv, unique_same, update_same}
 use Rattle.drum_bracket.specs.declared.waits.kind_row.KindRow.{KindRow}
 use Rattle.drum_bracket.specs.RoundsWaitsOf.{is_of, kind_of, IsRow, IsRowOf}
 use Rattle.drum_bracket.proofs.PieceAt.{at_here, hop_here, no_hop}

@@ -10,7 +10,7 @@ use Rattle.drum_ceiling.specs.declared.bracket.Bracket.{Bracket}
 use Rattle.drum_lines.specs.declared.failed_write.WriteFault.{WriteFault}
 use Rattle.drum_lines.specs.Sent.{IsSent}
 use Rattle.drum_lines.proofs.Sending.{all_three, cut_begin, cut_middle, written_cut, written_whole}
-use Rattle.drum_listing.specs.WaitsOf.{waited_line}
+use Rattle.drum_hop_lines.specs.KindsOf.{waited_line}
 use Rattle.drum_bracket.specs.CeilingText.{bracket_lines, total_lines}
 use Rattle.drum_bracket.specs.RoundsWaitsOf.{listed, row_text, rows_in}
 use Rattle.drum_bracket.proofs.waits.listing.list_rounds_waits.Goals as goal

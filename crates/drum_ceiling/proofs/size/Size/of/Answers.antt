@@ -2,7 +2,7 @@
 use Rattle.std.proofs.Common.{◌≡◌, ℕ, ◌+◌, ◌*◌, List, length, ap, ◌∙◌, subst, arith}
 use Rattle.drum_times.specs.declared.notes.mark.Mark.{Mark}
 use Rattle.drum_times.specs.Allowed.{Notes, AreSound}
-use Rattle.drum_flow.specs.Accepted.{told}
+use Rattle.drum_flow.specs.Accepted.{capped}
 use Rattle.drum_flow.specs.Flow.{nodes_of, notes_of}
 use Rattle.drum_ceiling.specs.InRounds.{passes_in_all, AreInRounds}
 use Rattle.drum_ceiling.proofs.Fallback.{size_low}
@@ -16,15 +16,15 @@ returns c =
     let same_marks : c.marks-marks.result.now ≡ marks =
     c.marks-marks.ensures.all ∙ ap (λ (n : Notes). n.marks) c.notes.ensures in
     let sound : AreSound (notes_of flow) = subst AreSound c.notes.ensures c.marks-marks.ensures.sound in
-    let are : AreInRounds told marks rounds =
-    subst (λ (ms : List Mark). AreInRounds told ms rounds) same_marks c.in_ok-rounds.ensures in
-    let passes : c.passes_in_all-passes.result ≡ told (passes_in_all marks rounds) =
-    c.passes_in_all-passes.ensures ∙ ap (λ (all : List ℕ). told (passes_in_all c.marks-marks.result.now all)) c.deref.ensures.value
-    ∙ ap (λ (ms : List Mark). told (passes_in_all ms rounds)) same_marks in
+    let are : AreInRounds capped marks rounds =
+    subst (λ (ms : List Mark). AreInRounds capped ms rounds) same_marks c.in_ok-rounds.ensures in
+    let passes : c.passes_in_all-passes.result ≡ capped (passes_in_all marks rounds) =
+    c.passes_in_all-passes.ensures ∙ ap (λ (all : List ℕ). capped (passes_in_all c.marks-marks.result.now all)) c.deref.ensures.value
+    ∙ ap (λ (ms : List Mark). capped (passes_in_all ms rounds)) same_marks in
     let unit : c.size-nodes.result * c.from.result ≡ length (nodes_of flow) * c.args.longest =
     ap (λ (n : ℕ). n * c.from.result) c.size-nodes.ensures ∙ ap (λ (n : ℕ). length (nodes_of flow) * n) c.from.ensures in
-    let whole : c.product-whole.result ≡ told (c.size-nodes.result * c.from.result * told (1 + c.passes_in_all-passes.result)) =
-    c.product-whole.ensures ∙ ap (λ (n : ℕ). told (c.size-nodes.result * c.from.result * n)) c.sum.ensures in
+    let whole : c.product-whole.result ≡ capped (c.size-nodes.result * c.from.result * capped (1 + c.passes_in_all-passes.result)) =
+    c.product-whole.ensures ∙ ap (λ (n : ℕ). capped (c.size-nodes.result * c.from.result * n)) c.sum.ensures in
     record {
       rounds = are;
       passes = passes;
@@ -32,6 +32,6 @@ returns c =
       whole = whole;
       low = size_low marks (length (nodes_of flow)) c.args.longest c.passes_in_all-passes.result c.sum.result
           c.product-whole.result rounds sound.nested are passes c.sum.ensures
-          (c.product-whole.ensures ∙ ap (λ (n : ℕ). told (n * c.sum.result)) unit);
+          (c.product-whole.ensures ∙ ap (λ (n : ℕ). capped (n * c.sum.result)) unit);
       few = omega (arith, c.size-nodes.ensures);
     }

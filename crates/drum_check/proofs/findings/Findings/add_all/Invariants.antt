@@ -1,5 +1,6 @@
 use Rattle.std.proofs.Common.{◌≡◌, ◌++◌, map, take}
-use Rattle.drum_check.specs.FindingsOf.{found_in, seen}
+use Rattle.drum_finding.specs.FindingOf.{seen}
+use Rattle.drum_check.specs.FindingsOf.{found_in}
 use Rattle.drum_check.proofs.findings.Findings.add_all.Given as goal
 
 -- the findings so far were added

@@ -1,12 +1,12 @@
 use Rattle.std.proofs.Common.{◌≡◌, ◌++◌, List, ℕ, flat_map, ap, ◌∙◌, Some}
 use Rattle.std.specs.Prelude.{slice_get}
-use Rattle.drum_deck.specs.Loads.{loads_in}
-use Rattle.drum_flow.proofs.Founds.{number_at}
+use Rattle.drum_deck.specs.InDeck.{loads_in}
 use Rattle.drum_flow.specs.Flow.{executed_in}
+use Rattle.drum_flow.proofs.Founds.{number_at}
 use Rattle.drum_acceptance.proofs.Alterations.{all_taken}
-use Rattle.drum_check.specs.Findings.{altering}
+use Rattle.drum_finding.specs.FoundAt.{altering}
+use Rattle.drum_finding.proofs.Adding.{added_some}
 use Rattle.drum_check.specs.FindingsOf.{found_in}
-use Rattle.drum_check.proofs.Adding.{added_some}
 use Rattle.drum_check.proofs.findings.Findings.add_all_altering.Goals as goal
 
 pub loop-location-preserved : goal.loop-location-preserved

@@ -1,8 +1,8 @@
 use Rattle.std.proofs.Common.{◌≡◌, ◌++◌, flat_map, map, take}
-use Rattle.drum_deck.specs.Loads.{loads_in}
-use Rattle.drum_flow.specs.Flow.{nodes_of}
+use Rattle.drum_deck.specs.InDeck.{loads_in}
 use Rattle.drum_times.specs.EdgeOf.{edge_of}
-use Rattle.drum_check.specs.Findings.{missing}
+use Rattle.drum_flow.specs.Flow.{nodes_of}
+use Rattle.drum_finding.specs.FoundAt.{missing}
 use Rattle.drum_check.specs.FindingsOf.{found_in}
 use Rattle.drum_check.proofs.findings.Findings.add_all_missing.Given as goal
 

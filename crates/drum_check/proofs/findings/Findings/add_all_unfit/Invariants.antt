@@ -1,7 +1,7 @@
 use Rattle.std.proofs.Common.{◌≡◌, ◌++◌, flat_map, take}
-use Rattle.drum_deck.specs.Loads.{loads_in}
+use Rattle.drum_deck.specs.InDeck.{loads_in}
 use Rattle.drum_flow.specs.Flow.{executed_in}
-use Rattle.drum_check.specs.Findings.{unfit}
+use Rattle.drum_finding.specs.FoundAt.{unfit}
 use Rattle.drum_check.specs.FindingsOf.{found_in}
 use Rattle.drum_check.proofs.findings.Findings.add_all_unfit.Given as goal
 

@@ -2,9 +2,10 @@ use Rattle.std.proofs.Common.{◌≡◌, ℕ, true, false, ◌++◌, List, Optio
 use Rattle.std.specs.Prelude.{is_some}
 use Rattle.drum_core.specs.declared.location.Location.{Location}
 use Rattle.drum_flow.specs.Flow.{executed_in}
-use Rattle.drum_check.specs.Findings.{Finding, unused_list_at}
+use Rattle.drum_finding.specs.Finding.{Finding}
+use Rattle.drum_finding.specs.FoundAt.{unused_list_at}
+use Rattle.drum_finding.proofs.Adding.{added_all, added_next}
 use Rattle.drum_check.specs.FindingsOf.{found_in}
-use Rattle.drum_check.proofs.Adding.{added_all, added_next}
 use Rattle.drum_check.proofs.findings.Findings.add_all_unused_lists.Goals as goal
 
 pub loop-number-preserved : goal.loop-number-preserved

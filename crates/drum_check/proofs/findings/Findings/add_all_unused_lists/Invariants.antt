@@ -1,7 +1,7 @@
 use Rattle.std.proofs.Common.{◌≡◌, ◌++◌, ◌-◌, flat_map}
 use Rattle.std.specs.List.{range_with_len}
 use Rattle.drum_flow.specs.Flow.{executed_in}
-use Rattle.drum_check.specs.Findings.{unused_list_at}
+use Rattle.drum_finding.specs.FoundAt.{unused_list_at}
 use Rattle.drum_check.specs.FindingsOf.{found_in}
 use Rattle.drum_check.proofs.findings.Findings.add_all_unused_lists.Given as goal
 

@@ -1,11 +1,12 @@
 use Rattle.std.proofs.Common.{ℕ, ◌∙◌}
 use Rattle.std.proofs.lemmas.Result.{on_ok_weaker}
-use Rattle.drum_deck.specs.Loads.{loads_in}
+use Rattle.drum_deck.specs.InDeck.{loads_in}
 use Rattle.drum_flow.specs.Flow.{executed_in}
-use Rattle.drum_check.specs.Findings.{altered, alters}
+use Rattle.drum_finding.specs.Finding.{alters}
+use Rattle.drum_finding.specs.FoundAt.{altered}
+use Rattle.drum_finding.specs.UnchangedParts.{kept_of}
+use Rattle.drum_finding.proofs.Adding.{words_altered}
 use Rattle.drum_check.specs.FindingsOf.{found_in}
-use Rattle.drum_check.specs.Kept.{kept_of}
-use Rattle.drum_check.proofs.Adding.{words_altered}
 use Rattle.drum_check.proofs.findings.Findings.add_altering.Goals as goal
 
 pub returns : goal.returns

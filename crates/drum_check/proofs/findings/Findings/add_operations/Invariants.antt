@@ -1,5 +1,5 @@
 use Rattle.std.proofs.Common.{◌≡◌, ◌++◌, map, take}
-use Rattle.drum_check.specs.Findings.{not_in_profile}
+use Rattle.drum_finding.specs.Finding.{not_in_profile}
 use Rattle.drum_check.specs.FindingsOf.{found_in}
 use Rattle.drum_check.proofs.findings.Findings.add_operations.Given as goal
 

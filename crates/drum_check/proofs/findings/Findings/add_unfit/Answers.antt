@@ -1,11 +1,12 @@
 use Rattle.std.proofs.Common.{◌≡◌, ℕ, List, ◌++◌, map, ap, ◌∙◌}
 use Rattle.std.proofs.lemmas.Result.{on_ok_weaker}
 use Rattle.drum_deck.specs.declared.deck.Deck.{Deck}
-use Rattle.drum_deck.specs.Loads.{loads_in}
+use Rattle.drum_deck.specs.InDeck.{loads_in}
 use Rattle.drum_times.specs.Allowed.{Notes}
-use Rattle.drum_check.specs.Findings.{not_in_profile, not_there, operations_outside}
+use Rattle.drum_finding.specs.Finding.{not_in_profile}
+use Rattle.drum_finding.specs.FoundAt.{not_there, operations_outside}
+use Rattle.drum_finding.proofs.Adding.{added_both}
 use Rattle.drum_check.specs.FindingsOf.{found_in}
-use Rattle.drum_check.proofs.Adding.{added_both}
 use Rattle.drum_check.proofs.findings.Findings.add_unfit.Goals as goal
 
 pub returns : goal.returns

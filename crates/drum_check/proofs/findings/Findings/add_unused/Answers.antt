@@ -2,12 +2,13 @@ use Rattle.std.proofs.Common.{◌≡◌, ◌++◌, ℕ, List, flat_map, ap, sym,
 use Rattle.std.specs.List.{range_with_len}
 use Rattle.std.proofs.lemmas.Grind.{flat_map-append}
 use Rattle.std.proofs.lemmas.Result.{err_from_is_err_and, on_ok_weaker}
-use Rattle.drum_deck.specs.Loads.{loads_in}
+use Rattle.drum_deck.specs.InDeck.{loads_in}
 use Rattle.drum_flow.specs.Flow.{executed_in, nodes_of}
-use Rattle.drum_check.specs.Findings.{Finding, all_locations, astray, unused_list_at}
+use Rattle.drum_finding.specs.Finding.{Finding}
+use Rattle.drum_finding.specs.FoundAt.{all_locations, astray, unused_list_at}
+use Rattle.drum_finding.proofs.Adding.{added_both}
+use Rattle.drum_finding.proofs.Whole.{two_parts}
 use Rattle.drum_check.specs.FindingsOf.{found_in}
-use Rattle.drum_check.proofs.Adding.{added_both}
-use Rattle.drum_check.proofs.Whole.{two_parts}
 use Rattle.drum_check.proofs.findings.Findings.add_unused.Goals as goal
 
 pub returns-in_err-add_all_astray : goal.returns-in_err-add_all_astray

@@ -1,9 +1,9 @@
 use Rattle.std.proofs.Common.{◌≡◌, ◌++◌, map, take}
 use Rattle.drum_core.specs.declared.location.Location.{Location}
-use Rattle.drum_deck.specs.Loads.{loads_in}
-use Rattle.drum_check.specs.Findings.{alters}
+use Rattle.drum_deck.specs.InDeck.{loads_in}
+use Rattle.drum_finding.specs.Finding.{alters}
+use Rattle.drum_finding.specs.UnchangedParts.{kept_of}
 use Rattle.drum_check.specs.FindingsOf.{found_in}
-use Rattle.drum_check.specs.Kept.{kept_of}
 use Rattle.drum_check.proofs.findings.Findings.add_words.Given as goal
 
 -- the words so far were added

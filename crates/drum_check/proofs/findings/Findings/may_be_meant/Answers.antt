@@ -1,9 +1,9 @@
 use Rattle.std.proofs.Common.{List, ap, sym, ◌∙◌}
 use Rattle.std.specs.List.{list_all}
 use Rattle.std.proofs.lemmas.List.Folds.{list_all-map}
-use Rattle.drum_check.specs.declared.finding.Finding.{Finding}
-use Rattle.drum_check.specs.Findings.{may_be_meant}
-use Rattle.drum_check.specs.FindingsOf.{seen}
+use Rattle.drum_finding.specs.declared.finding.Finding.{Finding}
+use Rattle.drum_finding.specs.Finding.{may_be_meant}
+use Rattle.drum_finding.specs.FindingOf.{seen}
 use Rattle.drum_check.proofs.findings.Findings.may_be_meant.Goals as goal
 
 pub returns : goal.returns

@@ -2,17 +2,20 @@
 -- the other. They are of the flow's deck and notes, which are the arguments.
 use Rattle.std.proofs.Common.{◌≡◌, List, ◌++◌, flat_map, map, refl, ap, sym, ◌∙◌}
 use Rattle.drum_deck.specs.declared.deck.Deck.{Deck}
-use Rattle.drum_deck.specs.Loads.{loads_in, start_in}
+use Rattle.drum_deck.specs.InDeck.{loads_in, start_in}
 use Rattle.drum_times.specs.Allowed.{Notes}
 use Rattle.drum_flow.specs.Accepted.{product_of}
 use Rattle.drum_flow.specs.Executed.{AreAllNodes}
 use Rattle.drum_flow.specs.Flow.{executed_in, nodes_of, AreFound}
 use Rattle.drum_acceptance.proofs.Acceptances.{moved}
-use Rattle.drum_check.specs.Findings.{AreFindings, Finding, altering, inside_at, too_many, unfit, unused}
-use Rattle.drum_check.specs.Findings.{unused_calls}
-use Rattle.drum_check.specs.FindingsOf.{found_in, seen}
-use Rattle.drum_check.specs.Idle.{idle_words}
-use Rattle.drum_check.proofs.Whole.{in_turn, loose_in_turn}
+use Rattle.drum_finding.specs.Finding.{Finding}
+use Rattle.drum_finding.specs.FoundAt.{altering, too_many, unfit, unused}
+use Rattle.drum_finding.specs.FoundAt.{unused_calls}
+use Rattle.drum_finding.specs.FindingOf.{seen}
+use Rattle.drum_finding.specs.Idle.{idle_words}
+use Rattle.drum_finding.proofs.Whole.{in_turn, loose_in_turn}
+use Rattle.drum_check.specs.Findings.{AreFindings, inside_at}
+use Rattle.drum_check.specs.FindingsOf.{found_in}
 use Rattle.drum_check.proofs.findings.Findings.of.Goals as goal
 
 pub returns-clause-found : goal.returns-clause-found

@@ -1,5 +1,5 @@
 use Rattle.std.proofs.Common.{◌≤◌, length, map, take, arith}
-use Rattle.drum_check.specs.FindingsOf.{seen}
+use Rattle.drum_finding.specs.FindingOf.{seen}
 use Rattle.drum_check.proofs.Lacks.{few_words}
 use Rattle.drum_check.proofs.lacking.Lacking.of.Goals as goal
 

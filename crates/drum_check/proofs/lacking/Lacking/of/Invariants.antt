@@ -1,7 +1,7 @@
 use Rattle.std.proofs.Common.{◌≡◌, map, take}
 use Rattle.drum_flow.specs.Found.{places_of}
+use Rattle.drum_finding.specs.FindingOf.{seen}
 use Rattle.drum_check.specs.declared.lacking.Lack.{Lack}
-use Rattle.drum_check.specs.FindingsOf.{seen}
 use Rattle.drum_check.specs.Lacking.{words_altered}
 use Rattle.drum_check.specs.LackingOf.{pair_of}
 use Rattle.drum_check.proofs.lacking.Lacking.of.Given as goal

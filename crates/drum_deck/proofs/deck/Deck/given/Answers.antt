@@ -1,7 +1,7 @@
 use Rattle.std.proofs.Common.{◌≡◌, sym, ◌∙◌}
 use Rattle.drum_core.specs.declared.location.Kind.TheVariants.{Drum}
 use Rattle.drum_core.specs.Kind.{kind_of}
-use Rattle.drum_deck.proofs.Loads.{none_found_off, none_seen_off}
+use Rattle.drum_deck.proofs.InDeckLaws.{none_found_off, none_seen_off}
 use Rattle.drum_deck.proofs.deck.Deck.given.Goals as goal
 
 pub returns-in_default : goal.returns-in_default

@@ -6,7 +6,7 @@ use Rattle.std.proofs.Common.{subst}
 use Rattle.std.proofs.lemmas.Option.{slice_get_read}
 use Rattle.drum_core.specs.declared.word.Word.{Word}
 use Rattle.drum_deck.specs.DeckText as text
-use Rattle.drum_deck.specs.Loaded.{IsFirstLoaded}
+use Rattle.drum_deck.specs.FirstLoaded.{IsFirstLoaded}
 use Rattle.drum_faults.proofs.Placed.{past_drum, twice}
 use Rattle.drum_faults.proofs.SoFar.{gave_comment, gave_card}
 use Rattle.drum_faults.proofs.deck_so_far.DeckSoFar.take_card.Goals as goal

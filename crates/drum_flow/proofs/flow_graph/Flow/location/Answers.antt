@@ -1,7 +1,7 @@
 use Rattle.std.proofs.lemmas.Option.{slice_get-map}
 use Rattle.std.specs.Prelude.{option_map}
 use Rattle.std.proofs.Common.{refl, ap, ◌∙◌}
-use Rattle.drum_flow.specs.Held.{node_in}
+use Rattle.drum_flow.specs.InNodes.{node_in}
 use Rattle.drum_flow.proofs.flow_graph.Flow.location.Goals as goal
 
 pub returns : goal.returns

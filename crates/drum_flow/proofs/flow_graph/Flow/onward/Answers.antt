@@ -4,7 +4,7 @@ use Rattle.std.specs.Prelude.{option_map, slice_get, Contains}
 use Rattle.drum_order.proofs.Lists.{contains_from_get}
 use Rattle.drum_flow.specs.Executed.{onward}
 use Rattle.drum_flow.specs.Flow.{nodes_of}
-use Rattle.drum_flow.specs.Held.{node_in}
+use Rattle.drum_flow.specs.InNodes.{node_in}
 use Rattle.drum_flow.specs.Hops.{Node}
 use Rattle.drum_flow.proofs.flow_graph.Flow.onward.Goals as goal
 

@@ -5,14 +5,14 @@ use Rattle.std.specs.Prelude.{flat_map}
 use Rattle.std.proofs.lemmas.Grind.{flat_map-append}
 use Rattle.std.proofs.lemmas.List.{append-nil, length-append, take_all}
 use Rattle.drum_core.specs.declared.location.Location.{Location}
-use Rattle.drum_deck.specs.Loads.{loads_in}
+use Rattle.drum_deck.specs.InDeck.{loads_in}
 use Rattle.drum_machine.specs.declared.open.Open.{Open}
 use Rattle.drum_flow.specs.Executed.{onward, same_node, successors, with_new, with_new_by}
-use Rattle.drum_flow.specs.Held.{node_in, node_of, nodes_in}
+use Rattle.drum_flow.specs.InNodes.{node_in, node_of, nodes_in}
 use Rattle.drum_flow.specs.Hops.{Node}
 use Rattle.drum_flow.proofs.Adding.{grown_append}
 use Rattle.drum_flow.proofs.Founds.{numbers, numbers_more}
-use Rattle.drum_flow.proofs.HeldNodes.{node_stays}
+use Rattle.drum_flow.proofs.InNodesLaws.{node_stays}
 use Rattle.drum_flow.proofs.Links.{node_law}
 use Rattle.drum_flow.proofs.nodes.Nodes.add_next.Goals as goal
 

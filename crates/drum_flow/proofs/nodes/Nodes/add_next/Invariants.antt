@@ -3,7 +3,7 @@ use Rattle.std.specs.Prelude.{flat_map}
 use Rattle.drum_core.specs.declared.location.Location.{Location}
 use Rattle.drum_machine.specs.declared.open.Open.{Open}
 use Rattle.drum_flow.specs.Executed.{onward, same_node, with_new_by}
-use Rattle.drum_flow.specs.Held.{AreHeld, node_in, nodes_in}
+use Rattle.drum_flow.specs.InNodes.{AreHeld, node_in, nodes_in}
 use Rattle.drum_flow.proofs.nodes.Nodes.add_next.Given as goal
 
 -- the nodes of the targets so far are added

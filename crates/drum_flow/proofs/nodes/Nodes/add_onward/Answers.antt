@@ -6,9 +6,9 @@ use Rattle.drum_machine.specs.Calls.{open_after, MayGo}
 use Rattle.drum_machine.specs.OpenIn.{open_in}
 use Rattle.drum_times.specs.declared.notes.call.Call.{Call}
 use Rattle.drum_flow.specs.Executed.{same_node, with_new_by}
-use Rattle.drum_flow.specs.Held.{ArePlacedIn, node_in, nodes_in, ways_in}
+use Rattle.drum_flow.specs.InNodes.{ArePlacedIn, node_in, nodes_in, ways_in}
 use Rattle.drum_flow.specs.Hops.{edge_between}
-use Rattle.drum_flow.proofs.HeldNodes.{none_onward, onward_added, ways_of_one, within_added}
+use Rattle.drum_flow.proofs.InNodesLaws.{none_onward, onward_added, ways_of_one, within_added}
 use Rattle.drum_flow.proofs.nodes.Nodes.add_onward.Goals as goal
 
 -- the index of what is open behind the step

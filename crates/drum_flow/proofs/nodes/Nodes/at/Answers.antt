@@ -1,4 +1,4 @@
-use Rattle.drum_flow.proofs.HeldNodes.{held_different}
+use Rattle.drum_flow.proofs.InNodesLaws.{held_different}
 use Rattle.drum_flow.proofs.nodes.Nodes.at.Goals as goal
 
 pub returns-clause-different : goal.returns-clause-different

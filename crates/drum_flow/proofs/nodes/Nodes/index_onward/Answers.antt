@@ -14,9 +14,9 @@ use Rattle.drum_order.proofs.Lists.{contains_cases, contains_none}
 use Rattle.drum_flow.specs.declared.node.Node as held
 use Rattle.drum_flow.specs.declared.nodes.Nodes.{Nodes}
 use Rattle.drum_flow.specs.Executed.{onward}
-use Rattle.drum_flow.specs.Held.{node_in, nodes_in, ways_in}
+use Rattle.drum_flow.specs.InNodes.{node_in, nodes_in, ways_in}
 use Rattle.drum_flow.specs.Hops.{edge_between, Node}
-use Rattle.drum_flow.proofs.HeldNodes.{held_absent, held_found, none_onward, one_onward, ways_held, ways_of_one}
+use Rattle.drum_flow.proofs.InNodesLaws.{held_absent, held_found, none_onward, one_onward, ways_held, ways_of_one}
 use Rattle.drum_flow.proofs.nodes.Nodes.index_onward.Goals as goal
 
 if_some : (found : Option ℕ) (P : ℕ → Type 0) → ((place : ℕ) → found ≡ Some place → P place) → IfSome found P

@@ -3,7 +3,7 @@ use Rattle.std.proofs.lemmas.Bool.Decides.{Decides-eqb}
 use Rattle.std.proofs.lemmas.List.{map-append, map_more, take_all, take-map}
 use Rattle.drum_flow.specs.declared.node.Node as held
 use Rattle.drum_flow.specs.Executed.{each_place, with_new}
-use Rattle.drum_flow.specs.Held.{node_of}
+use Rattle.drum_flow.specs.InNodes.{node_of}
 use Rattle.drum_flow.specs.Hops.{Node}
 use Rattle.drum_flow.proofs.Adding.{grown_append}
 use Rattle.drum_flow.proofs.nodes.Nodes.locations.Goals as goal

@@ -1,7 +1,7 @@
 use Rattle.std.proofs.Common.{◌≡◌, map, take}
 use Rattle.drum_flow.specs.Executed.{each_place}
 use Rattle.drum_flow.specs.Found.{places_of}
-use Rattle.drum_flow.specs.Held.{node_of}
+use Rattle.drum_flow.specs.InNodes.{node_of}
 use Rattle.drum_flow.proofs.nodes.Nodes.locations.Given as goal
 
 -- the locations of the nodes so far, each once

@@ -3,7 +3,7 @@ use Rattle.indexmap.specs.IndexSet.{insert_key}
 use Rattle.drum_machine.specs.declared.open.Open.{Open}
 use Rattle.drum_flow.specs.contracts.node.NodePartialEq as held_nodes
 use Rattle.drum_flow.specs.declared.node.Node as held
-use Rattle.drum_flow.specs.Held.{node_of}
+use Rattle.drum_flow.specs.InNodes.{node_of}
 use Rattle.drum_flow.specs.Hops.{Node}
 use Rattle.drum_flow.proofs.nodes.Nodes.new.Goals as goal
 

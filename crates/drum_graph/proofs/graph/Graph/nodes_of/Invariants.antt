@@ -1,5 +1,5 @@
 use Rattle.std.proofs.Common.{◌≡◌, length, map, take}
-use Rattle.drum_deck.specs.Loads.{loads_in}
+use Rattle.drum_deck.specs.InDeck.{loads_in}
 use Rattle.drum_flow.specs.Flow.{executed_in, nodes_of}
 use Rattle.drum_graph.specs.Graph as said
 use Rattle.drum_graph.specs.GraphOf.{node_of}

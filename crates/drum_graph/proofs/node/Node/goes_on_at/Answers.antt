@@ -1,6 +1,6 @@
 use Rattle.std.proofs.Common.{◌∙◌}
 use Rattle.drum_flow.specs.Found.{places_of}
-use Rattle.drum_graph.proofs.Among.{among_found}
+use Rattle.drum_flow.proofs.Among.{among_found}
 use Rattle.drum_graph.proofs.node.Node.goes_on_at.Goals as goal
 
 pub returns : goal.returns

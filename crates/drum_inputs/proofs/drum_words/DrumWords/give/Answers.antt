@@ -1,7 +1,7 @@
 use Rattle.std.proofs.Common.{◌≡◌, ℕ, ◌+◌, List, ◌++◌, ◌∷◌, [], take, ap, sym, ◌∙◌, subst, arith, append_assoc}
 use Rattle.std.proofs.lemmas.List.{take_all}
 use Rattle.drum_core.specs.declared.word.Word.{Word}
-use Rattle.drum_inputs.specs.Holds.{HoldWords}
+use Rattle.drum_inputs.specs.InputsOfLines.{HoldWords}
 use Rattle.drum_inputs.specs.InputsText.{placed}
 use Rattle.drum_inputs.proofs.Marks.{placed_more}
 use Rattle.drum_inputs.proofs.drum_words.DrumWords.give.Goals as goal

@@ -1,6 +1,6 @@
 use Rattle.std.proofs.Common.{ℕ, List, ◌++◌, take}
 use Rattle.drum_core.specs.declared.word.Word.{Word}
-use Rattle.drum_inputs.specs.Holds.{HoldWords}
+use Rattle.drum_inputs.specs.InputsOfLines.{HoldWords}
 use Rattle.drum_inputs.specs.InputsText.{placed}
 use Rattle.drum_inputs.proofs.drum_words.DrumWords.give.Given as goal
 

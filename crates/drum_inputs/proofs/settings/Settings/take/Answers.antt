@@ -2,7 +2,7 @@
 -- the slot has its value; or the slot was full, and the line states it again.
 use Rattle.std.proofs.Common.{◌≡◌, subst, ℤ, Some}
 use Rattle.std.specs.Prelude.{OnOk}
-use Rattle.drum_inputs.specs.Holds.{CanBeStated}
+use Rattle.drum_inputs.specs.InputsOfLines.{CanBeStated}
 use Rattle.drum_inputs.proofs.Takes.{same_signed, small_accumulator, took_angle, took_switches, took_distributor}
 use Rattle.drum_inputs.proofs.Takes.{took_accumulator, took_latch, took_programmed, took_on_overflow}
 use Rattle.drum_inputs.proofs.settings.Settings.take.Goals as goal

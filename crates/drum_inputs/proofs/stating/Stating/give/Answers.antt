@@ -4,7 +4,7 @@
 use Rattle.std.proofs.Common.{◌≡◌, ◌+◌, ◌≤◌, ◌++◌, List, length, take, refl, ap, subst, arith, true}
 use Rattle.std.specs.Prelude.{Contains, slice_range}
 use Rattle.drum_core.specs.declared.word.Word.{Word}
-use Rattle.drum_inputs.specs.Holds.{HoldWords}
+use Rattle.drum_inputs.specs.InputsOfLines.{HoldWords}
 use Rattle.drum_inputs.specs.InputsText as text
 use Rattle.drum_inputs.proofs.Marks.{marked_given, given_marked}
 use Rattle.drum_inputs.proofs.Steps.{holds_words}

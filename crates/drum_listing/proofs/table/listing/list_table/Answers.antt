@@ -7,9 +7,9 @@ use Rattle.drum_bound.specs.declared.worst.Worst.{Worst}
 use Rattle.drum_bound.specs.RowOf.{row_in}
 use Rattle.drum_lines.specs.Sent.{IsSent}
 use Rattle.drum_lines.proofs.Sending.{written_cut, written_whole}
+use Rattle.drum_hop_lines.proofs.Lines.{flat_map_map}
 use Rattle.drum_listing.specs.TableOf.{rows_in}
 use Rattle.drum_listing.specs.TableText.{row_line, table_text}
-use Rattle.drum_listing.proofs.Lines.{flat_map_map}
 use Rattle.drum_listing.proofs.table.listing.list_table.Goals as goal
 
 abbrev line : List Mark → Worst → List ℕ

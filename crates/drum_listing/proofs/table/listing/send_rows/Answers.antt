@@ -8,9 +8,9 @@ use Rattle.drum_bound.specs.declared.worst.Worst.{Worst}
 use Rattle.drum_bound.specs.RowOf.{row_in}
 use Rattle.drum_lines.specs.Sent.{IsSent}
 use Rattle.drum_lines.proofs.Sending.{IsSent-cut, IsSent-then}
-use Rattle.drum_listing.specs.Page.{text_of}
+use Rattle.drum_hop_lines.specs.Page.{text_of}
+use Rattle.drum_hop_lines.proofs.Gathers.{lines_begin, lines_more, take_all}
 use Rattle.drum_listing.specs.TableText.{row_line}
-use Rattle.drum_listing.proofs.Gathers.{lines_begin, lines_more, take_all}
 use Rattle.drum_listing.proofs.TableLines.{same_line}
 use Rattle.drum_listing.proofs.table.listing.send_rows.Goals as goal
 

@@ -2,7 +2,7 @@ use Rattle.std.proofs.Common.{◌≡◌, ◌+◌, ◌*◌, ◌≤◌, List, ℕ,
 use Rattle.drum_bound.specs.declared.worst.Worst.{Worst}
 use Rattle.drum_bound.specs.RowOf.{row_in}
 use Rattle.drum_lines.specs.Sent.{IsSent}
-use Rattle.drum_listing.specs.Page.{text_of}
+use Rattle.drum_hop_lines.specs.Page.{text_of}
 use Rattle.drum_listing.specs.TableText.{row_line}
 use Rattle.drum_listing.proofs.table.listing.send_rows.Given as goal
 

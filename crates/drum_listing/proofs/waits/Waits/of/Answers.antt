@@ -6,10 +6,10 @@ use Rattle.std.specs.Prelude.{sum_by}
 use Rattle.drum_times.specs.Entries.{entry_in}
 use Rattle.drum_walks.specs.Visited.{seen_visit}
 use Rattle.drum_bound.specs.AnalysisOf.{angle_of, bound_of, visits_of}
-use Rattle.drum_listing.specs.Waits.{time_of}
+use Rattle.drum_hop_lines.specs.Waits.{time_of}
+use Rattle.drum_hop_lines.proofs.SameKinds.{reordered_same, unique_same}
+use Rattle.drum_hop_lines.proofs.KindRows.{dearest_sorted, sort_key}
 use Rattle.drum_listing.specs.WaitsOf.{AreRows}
-use Rattle.drum_listing.proofs.SameKinds.{reordered_same, unique_same}
-use Rattle.drum_listing.proofs.KindRows.{dearest_sorted, sort_key}
 use Rattle.drum_listing.proofs.WaitsFound.{are_waits, begun_in, row_short, spends, time_in}
 use Rattle.drum_listing.proofs.waits.Waits.of.Goals as goal
 

@@ -6,10 +6,11 @@ use Rattle.std.proofs.lemmas.List.{length-take-le}
 use Rattle.indexmap.specs.IndexMap.{get, index_map_len}
 use Rattle.drum_times.specs.Entries.{entry_in}
 use Rattle.drum_walks.specs.declared.visit.Visit.{Visit}
-use Rattle.drum_listing.specs.declared.waits.kind.Kind.{Kind}
+use Rattle.drum_hop_lines.specs.declared.kind.Kind.{Kind}
+use Rattle.drum_hop_lines.specs.KindsOf.{kind_of, same_kind}
+use Rattle.drum_hop_lines.proofs.SameKinds.{get_same, unique_same, update_same}
 use Rattle.drum_listing.specs.declared.waits.wait.Wait.{Wait}
-use Rattle.drum_listing.specs.WaitsOf.{kind_of, of_kind, row_of, same_kind}
-use Rattle.drum_listing.proofs.SameKinds.{get_same, unique_same, update_same}
+use Rattle.drum_listing.specs.WaitsOf.{of_kind, row_of}
 use Rattle.drum_listing.proofs.WaitRows.{HasRoom, has_room, row_begun, row_more, rows_more}
 use Rattle.drum_listing.proofs.waits.adding.by_kind.Goals as goal
 use Rattle.drum_listing.proofs.waits.adding.by_kind.Goals.{in-Some, in-None}

@@ -5,10 +5,10 @@ use Rattle.std.specs.Prelude.{sum_by}
 use Rattle.drum_times.specs.Entries.{entry_in}
 use Rattle.drum_walks.specs.declared.visit.Visit.{Visit}
 use Rattle.drum_walks.specs.Visited.{seen_visit, Visited}
-use Rattle.drum_listing.specs.declared.waits.waited.Waited.{Waited}
-use Rattle.drum_listing.specs.Told.{seen_told}
-use Rattle.drum_listing.specs.Waits.{for_cards, for_data, for_instruction}
-use Rattle.drum_listing.specs.WaitsOf.{waited_of}
+use Rattle.drum_hop_lines.specs.declared.waited.Waited.{Waited}
+use Rattle.drum_hop_lines.specs.TimedHop.{seen_timed}
+use Rattle.drum_hop_lines.specs.Waits.{for_cards, for_data, for_instruction}
+use Rattle.drum_hop_lines.specs.KindsOf.{waited_of}
 use Rattle.drum_listing.proofs.WaitRows.{sum_more}
 use Rattle.drum_listing.proofs.waits.adding.waited.Goals as goal
 
@@ -31,7 +31,7 @@ loop-visit-preserved c =
     let i = c.loop-visit.visit-index in
     let visit = c.visit-item.result in
     let here : (f : Visited → ℕ) → (now before spent : ℕ) → now ≡ before + 1 * spent
-    → before ≡ sum_by f (map seen_visit (take i walk)) → spent ≡ f (seen_told c.of.result)
+    → before ≡ sum_by f (map seen_visit (take i walk)) → spent ≡ f (seen_timed c.of.result)
     → now ≡ sum_by f (map seen_visit (take (i + 1) walk)) =
     λ f now before spent is was took. omega (
       arith,

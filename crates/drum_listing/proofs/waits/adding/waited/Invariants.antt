@@ -1,7 +1,7 @@
 use Rattle.std.proofs.Common.{◌≡◌, ◌*◌, ◌≤◌, map, take}
 use Rattle.drum_times.specs.Entries.{entry_in}
 use Rattle.drum_walks.specs.Visited.{seen_visit}
-use Rattle.drum_listing.specs.WaitsOf.{waited_of}
+use Rattle.drum_hop_lines.specs.KindsOf.{waited_of}
 use Rattle.drum_listing.proofs.waits.adding.waited.Given as goal
 
 -- what the hops so far wait, each less than 2^64

@@ -10,10 +10,11 @@ use Rattle.drum_lines.specs.declared.failed_write.WriteFault.{WriteFault}
 use Rattle.drum_lines.specs.BoundText.{bound_text}
 use Rattle.drum_lines.specs.Sent.{IsSent}
 use Rattle.drum_lines.proofs.Sending.{all_three, cut_begin, cut_middle, written_cut, written_whole}
-use Rattle.drum_listing.specs.declared.waits.waited.Waited.{Waited}
-use Rattle.drum_listing.specs.WaitsOf.{firsts_of, waited_line}
-use Rattle.drum_listing.specs.WaitsText.{wait_line, waits_text, walk_line}
-use Rattle.drum_listing.proofs.WaitLines.{rows_told}
+use Rattle.drum_hop_lines.specs.declared.waited.Waited.{Waited}
+use Rattle.drum_hop_lines.specs.KindsOf.{waited_line}
+use Rattle.drum_hop_lines.specs.WaitsText.{wait_line, waits_text, walk_line}
+use Rattle.drum_listing.specs.WaitsOf.{firsts_of}
+use Rattle.drum_listing.proofs.WaitRowLines.{rows_told}
 use Rattle.drum_listing.proofs.waits.listing.list_waits.Goals as goal
 
 pub returns-in_err-sent-clause-written : goal.returns-in_err-sent-clause-written

@@ -5,10 +5,10 @@ use Rattle.std.proofs.lemmas.Result.{err_from_is_err_and}
 use Rattle.drum_times.specs.Entries.{entry_in}
 use Rattle.drum_lines.specs.Sent.{IsSent}
 use Rattle.drum_lines.proofs.Sending.{sent_more, sent_cut}
+use Rattle.drum_hop_lines.specs.TimedHop.{seen_timed}
 use Rattle.drum_listing.specs.declared.waits.wait.Wait.{Wait}
-use Rattle.drum_listing.specs.Told.{seen_told}
 use Rattle.drum_listing.specs.WaitsOf.{row_text}
-use Rattle.drum_listing.proofs.WaitLines.{row_told}
+use Rattle.drum_listing.proofs.WaitRowLines.{row_told}
 use Rattle.drum_listing.proofs.waits.listing.send_waits.Goals as goal
 
 pub returns-in_err-sent-clause-sent : goal.returns-in_err-sent-clause-sent
@@ -23,7 +23,7 @@ returns-in_err-sent-clause-sent g c =
     let fault = c.in_err-sent.field-0.0 in
     let p = err_from_is_err_and c.from_residual.result c.from_residual.ensures.1 in
     let told =
-    row_told (entry_in c.args.times.now) c.args.angle wait (seen_told c.of-told.result) c.of-told.ensures.same in
+    row_told (entry_in c.args.times.now) c.args.angle wait (seen_timed c.of-told.result) c.of-told.ensures.same in
     let here : IsSent between new c.loop-wait.sent (Err fault) (line (get_or rows index wait)) =
     subst (IsSent between new c.loop-wait.sent (Err fault)) (told ∙ ap line c.wait-item.is)
     c.in_err-sent.ensures.sent in
@@ -40,7 +40,7 @@ loop-wait-preserved g c =
     let between = g.O.Output.written c.loop-wait.writer in
     let new = g.O.Output.written c.send_kind.new.writer in
     let told =
-    row_told (entry_in c.args.times.now) c.args.angle wait (seen_told c.of-told.result) c.of-told.ensures.same in
+    row_told (entry_in c.args.times.now) c.args.angle wait (seen_timed c.of-told.result) c.of-told.ensures.same in
     let here : IsSent between new c.loop-wait.sent (Ok c.in_ok-sent.sent) (line (get_or rows index wait)) =
     subst (IsSent between new c.loop-wait.sent (Ok c.in_ok-sent.sent)) (told ∙ ap line c.wait-item.is)
     c.in_ok-sent.ensures.sent in

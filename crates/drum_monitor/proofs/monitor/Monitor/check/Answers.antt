@@ -1,4 +1,4 @@
-use Rattle.drum_deck.specs.Loads.{loads_in}
+use Rattle.drum_deck.specs.InDeck.{loads_in}
 use Rattle.drum_monitor.proofs.Watching.{seen_more}
 use Rattle.drum_monitor.proofs.monitor.Monitor.check.Goals as goal
 

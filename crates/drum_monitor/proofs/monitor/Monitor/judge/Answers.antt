@@ -1,6 +1,6 @@
 use Rattle.std.proofs.Common.{ap, sym, subst, ◌∙◌}
 use Rattle.drum_core.specs.declared.location.Location.{Location}
-use Rattle.drum_deck.specs.Loads.{loads_in}
+use Rattle.drum_deck.specs.InDeck.{loads_in}
 use Rattle.drum_machine.specs.Keeps.{reads_load}
 use Rattle.drum_machine.specs.Step.{fetched}
 use Rattle.drum_emulator.specs.declared.step.Step.{Step}

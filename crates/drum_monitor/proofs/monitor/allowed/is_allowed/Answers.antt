@@ -1,4 +1,4 @@
-use Rattle.drum_deck.specs.Loads.{loads_in}
+use Rattle.drum_deck.specs.InDeck.{loads_in}
 use Rattle.drum_times.specs.Allowed.{loaded, patterns_of}
 use Rattle.drum_monitor.proofs.Allowing.{listed_test}
 use Rattle.drum_monitor.proofs.monitor.allowed.is_allowed.Goals as goal

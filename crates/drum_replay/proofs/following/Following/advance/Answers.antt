@@ -2,7 +2,7 @@
 -- that this leaves the notes, or where the machine stops, the verdict comes with it; else the
 -- strides so far keep to the notes, and so have used no more than the limit.
 use Rattle.std.proofs.Common.{ℕ, ◌+◌, ◌∷◌, ◌++◌, [], sym, subst, ◌∙◌}
-use Rattle.drum_deck.specs.Loads.{loads_in}
+use Rattle.drum_deck.specs.InDeck.{loads_in}
 use Rattle.drum_times.specs.Entries.{entry_in}
 use Rattle.drum_machine.specs.Step.{fetched}
 use Rattle.drum_emulator.specs.Feed.{cards_left}

@@ -1,5 +1,5 @@
 use Rattle.std.proofs.Common.{◌≡◌, ◌+◌, ◌*◌, ◌≤◌, List, flat_map, take, Ok}
-use Rattle.drum_deck.specs.Loads.{cards_in}
+use Rattle.drum_deck.specs.InDeck.{cards_in}
 use Rattle.drum_walks.specs.Visited.{Visited}
 use Rattle.drum_lines.specs.Sent.{IsSent}
 use Rattle.drum_report.specs.Report.{card_line}

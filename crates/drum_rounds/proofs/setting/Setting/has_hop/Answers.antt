@@ -1,5 +1,5 @@
 use Rattle.drum_rounds.proofs.HopLaws.{hop_there}
-use Rattle.drum_deck.specs.Loads.{loads_in}
+use Rattle.drum_deck.specs.InDeck.{loads_in}
 use Rattle.drum_machine.specs.WaysLeft.{seen_way}
 use Rattle.drum_rounds.proofs.setting.Setting.has_hop.Goals as goal
 

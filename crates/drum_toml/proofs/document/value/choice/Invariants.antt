@@ -4,5 +4,5 @@ use Rattle.drum_toml.proofs.document.value.choice.Given as goal
 
 abbrev pub invariant-loop-name : goal.invariant-loop-name
 invariant-loop-name g l =
-    document.is_among l.text (map (λ choice. choice.0.now) (drop l.name-index l.choices))
-    ≡ document.is_among l.text (map (λ choice. choice.0.now) l.choices)
+    document.is_one_of l.text (map (λ choice. choice.0.now) (drop l.name-index l.choices))
+    ≡ document.is_one_of l.text (map (λ choice. choice.0.now) l.choices)

@@ -5,9 +5,9 @@ use Rattle.indexmap.proofs.CallerLemmas.{insert_entry-new}
 use Rattle.drum_bound.specs.declared.cells.entries.Entries.{Entries}
 use Rattle.drum_bound.specs.declared.key_hop.KeyHop.{KeyHop}
 use Rattle.drum_bound.specs.declared.worst.Worst.{Worst}
-use Rattle.drum_bound.specs.Kept.{pairs_of, IsTimed, Keeps}
+use Rattle.drum_bound.specs.InEntries.{pairs_of, IsTimed, Keeps}
 use Rattle.drum_bound.proofs.Entering.{added_keeps}
-use Rattle.drum_bound.proofs.HeldLaws.{latest_of}
+use Rattle.drum_bound.proofs.InCellsLaws.{latest_of}
 use Rattle.drum_bound.proofs.cells.entries.Entries.add.Goals as goal
 
 pub returns-clause-keeps : goal.returns-clause-keeps

@@ -1,7 +1,7 @@
 use Rattle.std.proofs.Common.{refl, ap}
 use Rattle.std.specs.Prelude.{option_map}
 use Rattle.drum_bound.specs.declared.latest.Latest.{Latest}
-use Rattle.drum_bound.specs.Kept.{pairs_of}
+use Rattle.drum_bound.specs.InEntries.{pairs_of}
 use Rattle.drum_bound.proofs.Entering.{kept_none}
 use Rattle.drum_bound.proofs.cells.entries.Entries.clock_at.Goals as goal
 

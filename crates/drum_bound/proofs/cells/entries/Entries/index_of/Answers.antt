@@ -1,6 +1,6 @@
 use Rattle.std.proofs.Common.{◌≡◌, ℕ, ◌-◌, Option, Some, None, IfSome, refl, sym, ◌∙◌, arith}
 use Rattle.std.specs.Map.{keys_of}
-use Rattle.drum_bound.specs.Kept.{pairs_of, IsEntryOf}
+use Rattle.drum_bound.specs.InEntries.{pairs_of, IsEntryOf}
 use Rattle.drum_bound.proofs.Entering.{beyond_none, entry_found}
 use Rattle.drum_bound.proofs.EntryKeys.{different_keys, entry_at}
 use Rattle.drum_bound.proofs.cells.entries.Entries.index_of.Goals as goal

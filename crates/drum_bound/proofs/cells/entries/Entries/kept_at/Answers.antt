@@ -1,5 +1,5 @@
 use Rattle.std.proofs.Common.{refl, sym}
-use Rattle.drum_bound.specs.Kept.{pairs_of}
+use Rattle.drum_bound.specs.InEntries.{pairs_of}
 use Rattle.drum_bound.proofs.Entering.{kept_none}
 use Rattle.drum_bound.proofs.cells.entries.Entries.kept_at.Goals as goal
 

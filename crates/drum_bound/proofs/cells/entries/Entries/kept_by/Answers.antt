@@ -8,9 +8,9 @@ use Rattle.drum_bound.specs.declared.cells.entries.Entries.{Entries}
 use Rattle.drum_bound.specs.declared.key_hop.KeyHop.{KeyHop}
 use Rattle.drum_bound.specs.declared.latest.Latest.{Latest}
 use Rattle.drum_bound.specs.declared.worst.Worst.{Worst}
-use Rattle.drum_bound.specs.Kept.{kept_of, latest_at, pairs_of, AreKept, IsEntryOf}
+use Rattle.drum_bound.specs.InEntries.{kept_of, latest_at, pairs_of, AreKept, IsEntryOf}
 use Rattle.drum_bound.proofs.Entering.{entry_pair, entry_read, kept_found}
-use Rattle.drum_bound.proofs.HeldLaws.{latest_other, latest_start}
+use Rattle.drum_bound.proofs.InCellsLaws.{latest_other, latest_start}
 use Rattle.drum_bound.proofs.cells.entries.Entries.kept_by.Goals as goal
 
 pub overflow_add-result : goal.overflow_add-result

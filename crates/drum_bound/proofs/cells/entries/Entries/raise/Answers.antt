@@ -9,9 +9,9 @@ use Rattle.drum_bound.specs.declared.cells.entries.Entries.{Entries}
 use Rattle.drum_bound.specs.declared.key_hop.KeyHop.{KeyHop}
 use Rattle.drum_bound.specs.declared.worst.Worst.{Worst}
 use Rattle.drum_bound.specs.EndOf.{latest_in}
-use Rattle.drum_bound.specs.Kept.{pairs_of, Keeps}
+use Rattle.drum_bound.specs.InEntries.{pairs_of, Keeps}
 use Rattle.drum_bound.proofs.Entering.{entry_read, raised_keeps, stays_kept}
-use Rattle.drum_bound.proofs.HeldLaws.{latest_of}
+use Rattle.drum_bound.proofs.InCellsLaws.{latest_of}
 use Rattle.drum_bound.proofs.cells.entries.Entries.raise.Goals as goal
 
 pub returns-then-time-was : goal.returns-then-time-was

@@ -2,7 +2,7 @@ use Rattle.std.proofs.Common.{ℕ, ◌+◌, Some, refl, ap, sym, ◌∙◌}
 use Rattle.drum_machine.specs.WaysLeft.{seen_way}
 use Rattle.drum_flow.specs.Longest.{longest}
 use Rattle.drum_bound.specs.SearchOf.{hop_sought}
-use Rattle.drum_bound.proofs.HeldLaws.{latest_of}
+use Rattle.drum_bound.proofs.InCellsLaws.{latest_of}
 use Rattle.drum_flow.proofs.LongestLaws.{longest_from_found}
 use Rattle.drum_bound.proofs.steps.end.End.of.Goals as goal
 

@@ -6,9 +6,9 @@ use Rattle.std.proofs.Common.{cond, not, Some, None, refl, sym, ◌∙◌, ap, a
 use Rattle.std.specs.Result.{is_ok}
 use Rattle.drum_core.specs.declared.word.Word.{Word}
 use Rattle.drum_deck.specs.DeckText as text
-use Rattle.drum_deck.specs.Loaded.{IsFirstLoaded}
-use Rattle.drum_deck.specs.Held.{Holds}
-use Rattle.drum_deck.proofs.Loads.{holds_card, twice_fault}
+use Rattle.drum_deck.specs.FirstLoaded.{IsFirstLoaded}
+use Rattle.drum_deck.specs.ImageOfLines.{Holds}
+use Rattle.drum_deck.proofs.InDeckLaws.{holds_card, twice_fault}
 use Rattle.drum_deck.proofs.deck.loading.Loading.load.Goals as goal
 
 -- src/deck/loading.rt:80:13

@@ -1,8 +1,8 @@
 use Rattle.std.proofs.Common.{◌≡◌, Option, None, refl, sym, ◌∙◌, arith, subst}
 use Rattle.drum_core.specs.declared.location.Location.{Location}
 use Rattle.drum_deck.specs.DeckText as text
-use Rattle.drum_deck.specs.Held.{Holds}
-use Rattle.drum_deck.proofs.Loads.{holds_start, none_is}
+use Rattle.drum_deck.specs.ImageOfLines.{Holds}
+use Rattle.drum_deck.proofs.InDeckLaws.{holds_start, none_is}
 use Rattle.drum_deck.proofs.deck.loading.Loading.start_at.Goals as goal
 
 -- src/deck/loading.rt:63:13

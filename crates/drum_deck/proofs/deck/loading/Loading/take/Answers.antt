@@ -2,7 +2,7 @@ use Rattle.std.proofs.Common.{subst}
 use Rattle.drum_deck.specs.DeckText as text
 use Rattle.drum_deck.specs.declared.deck.line.Line as read
 use Rattle.drum_deck.specs.DeckLine.{said}
-use Rattle.drum_deck.proofs.Loads.{holds_comment}
+use Rattle.drum_deck.proofs.InDeckLaws.{holds_comment}
 use Rattle.drum_deck.proofs.deck.loading.Loading.take.Goals as goal
 
 -- src/deck/loading.rt:43:5

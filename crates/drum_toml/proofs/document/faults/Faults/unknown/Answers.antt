@@ -18,7 +18,7 @@ pub loop-key-preserved : goal.loop-key-preserved
 loop-key-preserved c =
     let steps : document.unknown_in c.args.fields.now.at.now (map (λ key. key.now) c.args.known.now)
     (members_view c.loop-key.key-iterator)
-    ≡ cond (document.is_among c.as_str.result.now (map (λ key. key.now) c.args.known.now)) []
+    ≡ cond (document.is_one_of c.as_str.result.now (map (λ key. key.now) c.args.known.now)) []
     (document.unknown (c.args.fields.now.at.now ++ c.as_str.result.now) ∷ [])
     ++ document.unknown_in c.args.fields.now.at.now (map (λ key. key.now) c.args.known.now)
     (members_view c.next.new.self) =

@@ -1,0 +1,15 @@
+use Rattle.std.proofs.Common.{◌≡◌, ◌+◌, ◌-◌, ◌≤◌, length, take}
+use Rattle.std.specs.Io.KnownBytes.{Appends}
+use Rattle.drum_devices.proofs.pieces.write_whole.Given as goal
+
+-- the bytes so far have gone out, each call took some, and none failed
+abbrev pub invariant-loop-sent : goal.invariant-loop-sent
+invariant-loop-sent g l = record {
+  within : l.sent ≤ length l.bytes;
+  prefix : Appends (g.O.Output.written l.fn.output) (g.O.Output.written l.output) (take l.sent l.bytes);
+  calls : g.O.Output.called l.output ≤ g.O.Output.called l.fn.output + l.sent;
+  failed : g.O.Output.failed l.output ≡ g.O.Output.failed l.fn.output;
+}
+
+abbrev pub decreases-loop-sent : goal.decreases-loop-sent
+decreases-loop-sent g l = length l.bytes - l.sent

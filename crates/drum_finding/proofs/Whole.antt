@@ -1,0 +1,37 @@
+-- All the findings, put together.
+use Rattle.std.proofs.Common.{◌≡◌, List, [], ◌++◌, refl, ap, ◌∙◌}
+use Rattle.std.specs.List.{range_with_len}
+use Rattle.std.proofs.lemmas.List.{append_assoc}
+use Rattle.drum_finding.specs.Finding.{Finding}
+use Rattle.drum_finding.specs.FoundAt.{all_locations}
+use Rattle.drum_finding.specs.Idle.{drum_locations}
+
+-- five lists that were added in turn to none
+pub in_turn : (none first second third fourth fifth vs ws xs ys zs : List Finding) → none ≡ [] → first ≡ none ++ vs
+    → second ≡ first ++ ws → third ≡ second ++ xs → fourth ≡ third ++ ys → fifth ≡ fourth ++ zs
+    → fifth ≡ vs ++ ws ++ xs ++ ys ++ zs
+in_turn none first second third fourth fifth vs ws xs ys zs empty v w x y z =
+    z ∙ ap (λ (all : List Finding). all ++ zs)
+    (y ∙ ap (λ (all : List Finding). all ++ ys)
+    (x ∙ ap (λ (all : List Finding). all ++ xs)
+    (w ∙ ap (λ (all : List Finding). all ++ ws) (v ∙ ap (λ (all : List Finding). all ++ vs) empty))))
+
+-- four lists that were added in turn
+pub loose_in_turn : (before first second third fourth ws xs ys zs : List Finding) → first ≡ before ++ ws
+    → second ≡ first ++ xs → third ≡ second ++ ys → fourth ≡ third ++ zs → fourth ≡ before ++ (ws ++ xs ++ ys ++ zs)
+loose_in_turn before first second third fourth ws xs ys zs w x y z =
+    z ∙ ap (λ (all : List Finding). all ++ zs)
+    (y ∙ ap (λ (all : List Finding). all ++ ys)
+    (x ∙ ap (λ (all : List Finding). all ++ xs) w ∙ append_assoc before ws xs)
+    ∙ append_assoc before (ws ++ xs) ys)
+    ∙ append_assoc before (ws ++ xs ++ ys) zs
+
+-- All locations, in their two parts.
+pub two_parts : all_locations ≡ range_with_len 0 2000 ++ range_with_len 8000 4
+unfolding all_locations
+two_parts = refl
+
+-- The locations on the drum.
+pub on_drum : drum_locations ≡ range_with_len 0 2000
+unfolding drum_locations
+on_drum = refl

@@ -1,0 +1,13 @@
+use Rattle.std.proofs.Common.{refl}
+use Rattle.drum_core.specs.contracts.location.LocationPartialEq.TheImpl.{eq-value}
+use Rattle.drum_flow.proofs.Founds.{numbers_different, few_locations}
+use Rattle.drum_flow.proofs.location_set.LocationSet.locations.Goals as goal
+
+pub returns-clause-different : goal.returns-clause-different
+returns-clause-different c =
+    numbers_different eq-value.it (λ a b. refl) c.args.self.now.locations.keys c.as_slice.ensures.unique
+
+pub returns-clause-few : goal.returns-clause-few
+returns-clause-few c =
+    few_locations c.args.self.now.locations.keys
+    (numbers_different eq-value.it (λ a b. refl) c.args.self.now.locations.keys c.as_slice.ensures.unique)

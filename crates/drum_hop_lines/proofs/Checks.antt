@@ -1,0 +1,120 @@
+-- Definitions evaluated, with answers that were worked out apart from them.
+use Rattle.std.proofs.Common.{◌≡◌, ℕ, false, true, List, [], ◌∷◌, ◌++◌, replicate, refl, lit≤, Some, None, pos}
+use Rattle.std.specs.Prelude.{codes, slice_set}
+use Rattle.std.specs.Fmt.{digits}
+use Rattle.drum_core.specs.declared.op.Op.{Op}
+use Rattle.drum_core.specs.declared.op.Op.TheVariants.{LoadDistributor}
+use Rattle.drum_core.specs.declared.parity.Parity.TheVariants.{Any}
+use Rattle.drum_core.specs.declared.word.Word.{Word}
+use Rattle.drum_core.specs.Instruction.{instruction_of}
+use Rattle.drum_core.specs.Word.{word}
+use Rattle.drum_times.specs.declared.entry.Entry.{Entry}
+use Rattle.drum_times.specs.Entries.{blank}
+use Rattle.drum_rotation.specs.Moment.{first}
+use Rattle.drum_machine.specs.Run.{Stride}
+use Rattle.drum_machine.specs.Step.{State, step}
+use Rattle.drum_machine.specs.Ways.{Way, early, to, late}
+use Rattle.drum_walks.specs.Visited.{Visited}
+use Rattle.drum_hop_lines.specs.declared.moments.Moments.{Moments}
+use Rattle.drum_hop_lines.specs.Moments.{later, moments_of}
+use Rattle.drum_hop_lines.specs.Pieces.{times_text}
+use Rattle.drum_hop_lines.specs.TraceText.{stride_lines}
+use Rattle.drum_hop_lines.specs.WalkText.{walk_text}
+
+-- 69 takes three word times before it has its data and three after, all else one in all
+abbrev loading : Entry
+loading = record {
+  before = 3;
+  after = 3;
+  parity = Any;
+  per = 0;
+  wait_min = 0;
+  wait_max = 0;
+  some_before = lit≤ tt;
+  short_before = lit≤ tt;
+  short_after = lit≤ tt;
+  short_per = lit≤ tt;
+  waits = lit≤ tt;
+  short_wait = lit≤ tt;
+}
+
+abbrev times : Op → Entry
+times LoadDistributor = loading
+times _ = blank
+
+-- the moments of a word at 0100, sought at once from angle 1
+abbrev moments : ℕ → Way → Moments
+moments digits way = moments_of times 1 100 (instruction_of (word false digits)) way 0
+
+-- the data comes when it is wanted, or one word time less than a revolution later
+in_place : (moments 6901030106 (to 106) ≡ record { found = 49; ready = Some 52; operand = Some 52 })
+    × (moments 6901020106 (to 106) ≡ record { found = 49; ready = Some 52; operand = Some 101 })
+unfolding first
+in_place = (refl, refl)
+
+-- no card; a D that is no location; 84, which is outside of the profile; and a stop, which wants no data
+without_data : (moments 7001000106 early ≡ record { found = 49; ready = Some 50; operand = None })
+    × (moments 6925000106 late ≡ record { found = 49; ready = Some 52; operand = None })
+    × (moments 8401000106 late ≡ record { found = 49; ready = None; operand = None })
+    × (moments 100000106 late ≡ record { found = 49; ready = Some 50; operand = Some 50 })
+unfolding first
+without_data = (refl, refl, refl, refl)
+
+-- a walk of two words: the first takes 55 word times, the second one
+abbrev walk : List Visited
+walk =
+    record { place = 100; ins = instruction_of (word false 6901030106); way = to 106; begun = 0; ended = 55 }
+    ∷ record { place = 106; ins = instruction_of (word false 100000106); way = late; begun = 55; ended = 56 } ∷ []
+
+walk_lines : walk_text times 1 walk 56
+    ≡ codes "0100 69 0103 0106 to 0106 begun 0 found 49 ready 52 data 52 ended 55\n"
+    ++ codes "0106 01 0000 0106 late begun 55 found 55 ready 56 data 56 ended 56\n"
+    ++ codes "bound 56\n"
+unfolding first digits
+walk_lines = refl
+
+-- a machine that seeks 0100 from angle 1, where this word is
+abbrev state : Word → State
+state first = record {
+  contents = record {
+    drum = slice_set (replicate 110 (word false 0)) 100 first;
+    switches = word false 0;
+    distributor = word false 0;
+    accumulator = pos 0;
+    remainder = None;
+    latch = false;
+    programmed_stops = true;
+    overflow_stops = true;
+    cards = [];
+  };
+  sought = 100;
+  time = 0;
+  first_angle = 1;
+}
+
+abbrev stride : Word → Stride
+stride first = record { origin = state first; wait = 0; outcome = step times (state first) 0 }
+
+-- what it holds, and no word is written
+abbrev registers : List ℕ
+registers = codes " accumulator +00000000000000000000 distributor +0000000000 latch off\n"
+
+-- a step that goes on, one that stops early, and one of an operation outside of the profile
+steps : stride_lines times 7
+    (stride (word false 6901030106) ∷ stride (word true 6925000106) ∷ stride (word false 8401000106) ∷ [])
+    ≡ codes "step 7 0100 +6901030106 begun 0 found 49 ready 52 data 52 ended 55" ++ registers
+    ++ codes "step 8 0100 -6925000106 begun 0 found 49 ready 52 ended 52" ++ registers
+    ++ codes "step 9 0100 +8401000106 begun 0 found 49 ended 49" ++ registers
+unfolding first digits
+steps = refl
+
+-- moments of a hop that begins late in a long walk
+abbrev soon : Moments
+soon = record { found = 48; ready = Some 51; operand = None }
+
+late_times : times_text (later 340000000000000000000000000000000000000 soon) 340000000000000000000000000000000000051
+    (codes "\n")
+    ≡ codes " found 340000000000000000000000000000000000048 ready 340000000000000000000000000000000000051"
+    ++ codes " ended 340000000000000000000000000000000000051\n"
+unfolding digits
+late_times = refl

@@ -1,0 +1,14 @@
+pub mod AddingUp
+pub mod Checks
+pub mod DataAngles
+pub mod Gathers
+pub mod KindRows
+pub mod LaterMoments
+pub mod Lines
+pub mod NextAngles
+pub mod SameKinds
+pub mod Strides
+pub mod WaitChecks
+pub mod WaitLines
+pub mod Waiting
+pub mod WholeFits

@@ -1,0 +1,15 @@
+use Rattle.std.proofs.Common.{ap, ◌∙◌, subst}
+use Rattle.std.specs.Prelude.{decimal}
+use Rattle.drum_lines.specs.Sent.{IsSent}
+use Rattle.drum_hop_lines.proofs.WaitLines.{sums_told}
+use Rattle.drum_hop_lines.proofs.kind_line.send_sums.Goals as goal
+
+pub returns-clause-sent : goal.returns-clause-sent
+returns-clause-sent g c =
+    subst (IsSent (g.O.Output.written c.args.writer.now) (g.O.Output.written c.send.new.output) c.args.sent
+    c.send.result)
+    (sums_told c.args.sums.now c.as_bytes.result.now c.as_bytes-2.result.now c.as_bytes-3.result.now
+    c.as_bytes-4.result.now (c.as_bytes.ensures.value ∙ c.format.ensures.text)
+    (c.as_bytes-2.ensures.value ∙ c.format-2.ensures.text) (c.as_bytes-3.ensures.value ∙ c.format-3.ensures.text)
+    (c.as_bytes-4.ensures.value ∙ c.format-4.ensures.text ∙ ap decimal c.work.ensures))
+    c.send.ensures.sent

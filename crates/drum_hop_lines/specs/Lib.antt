@@ -1,0 +1,12 @@
+pub mod HeldText
+pub mod Moments
+pub mod MomentsText
+pub mod Page
+pub mod Pieces
+pub mod StepOf
+pub mod TimedHop
+pub mod KindsOf
+pub mod TraceText
+pub mod Waits
+pub mod WaitsText
+pub mod WalkText

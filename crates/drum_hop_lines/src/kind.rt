@@ -1,0 +1,30 @@
+use drum_core::{Instruction, Location};
+use drum_machine::Way;
+use drum_walks::Visit;
+
+/// What the hops of one kind have in common: where they begin, their instruction, and how they end.
+#[derive(Clone, Copy, Debug, PartialEq, Eq, Hash)]
+pub struct Kind {
+    /// Where they begin.
+    pub place: Location,
+    /// Their instruction.
+    pub instruction: Instruction,
+    /// How they end.
+    pub way: Way,
+}
+
+impl Kind {
+    ghost use Rattle.std.specs.Prelude.{◌≡◌};
+    ghost use Rattle.drum_hop_lines.specs.KindsOf.{kind_of};
+
+    /// The kind of a hop.
+    pub fn of(visit: &Visit) -> Kind
+        ensures { result ≡ kind_of visit.now }
+    {
+        Kind {
+            place: visit.place,
+            instruction: visit.instruction,
+            way: visit.way,
+        }
+    }
+}
