@@ -13,12 +13,11 @@ use Rattle.drum_times.specs.Marks.{mark_on}
 use Rattle.drum_machine.specs.Calls.{open_after}
 use Rattle.drum_order.specs.Rows.{targets_in, AreWithin}
 use Rattle.drum_order.specs.Graph.{AreDifferent}
-use Rattle.drum_order.proofs.Lists.{contains_cases, contains_here, contains_none, contains_from_get}
+use Rattle.drum_order.proofs.Lists.{contains_cases, contains_from_get, contains_here, contains_none, one_place}
 use Rattle.drum_flow.specs.Executed.{may_go, onward, successors, with_new}
 use Rattle.drum_flow.specs.Hops.{edge_between, Node}
 use Rattle.drum_flow.proofs.Links.{in_all, link_there, node_linked, of_all}
 use Rattle.drum_acceptance.specs.Free.{IsFreeRow, IsUnmarkedRow, IsUnmarkedTo, AreFreeRows}
-pub use Rattle.drum_order.proofs.Lists.{one_place}
 
 -- a list has a member below its length
 pub some_at : {X : Type 0} (xs : List X) (k : ℕ) → k < length xs → (x : X) × (slice_get xs k ≡ Some x)

@@ -9,7 +9,7 @@ use Rattle.drum_core.specs.declared.location.Location.{Location}
 use Rattle.drum_core.specs.declared.word.Word.{Word}
 use Rattle.drum_times.specs.Allowed.{Notes}
 use Rattle.drum_order.specs.Graph.{AreDifferent, GoOn, Leads, LeadRound, IsClosed, IsCycle, IsTopologicalOrder}
-use Rattle.drum_order.proofs.Lists.{contains_here, contains_there, contains_cases, contains_none, contains_at}
+use Rattle.drum_order.proofs.Lists.{contains_at, contains_cases, contains_here, contains_none, contains_there, one_place}
 use Rattle.drum_order.proofs.Lists.{contains_from_get}
 use Rattle.drum_flow.specs.Accepted.{IsFreeCycle, IsFreeLink}
 use Rattle.drum_flow.specs.Executed.{AreAllNodes}
@@ -19,7 +19,7 @@ use Rattle.drum_flow.proofs.Founds.{numbers}
 use Rattle.drum_flow.proofs.Turns.{closed_from, different_from, members_turned, smallest_turned}
 use Rattle.drum_flow.proofs.Orders.{has_reached, node_at, reached_different, reached_next, reached_only}
 use Rattle.drum_acceptance.specs.Free.{those_at, AreFreeRows, IsNodeOrder}
-use Rattle.drum_acceptance.proofs.FreeRows.{one_place, some_at}
+use Rattle.drum_acceptance.proofs.FreeRows.{some_at}
 
 module _ {X : Type 0} (all : List X) where
   -- those at indices, the first of which is there

@@ -2,7 +2,7 @@
 use Rattle.std.proofs.Common.{◌^◌, ◌<◌, ◌≤◌, ℕ, arith, subst}
 use Rattle.drum_rounds.specs.InRounds as walks
 use Rattle.drum_ceiling.specs.CeilingOf as ceilings
-use Rattle.drum_ceiling.specs.declared.bracket.Bracket.{Bracket}
+use Rattle.drum_reached.specs.declared.bracket.Bracket.{Bracket}
 use Rattle.drum_documents.specs.declared.documents.Documents.{Documents}
 use Rattle.drum_documents.specs.Limits.{IsBracket}
 

@@ -9,7 +9,7 @@ use Rattle.drum_flow.specs.Bounded.{IsDeckAccepted}
 use Rattle.drum_flow.specs.Flow.{AreFound}
 use Rattle.drum_walks.specs.Visited.{Visited}
 use Rattle.drum_bound.specs.Table.{IsTable, Row}
-use Rattle.drum_ceiling.specs.declared.bracket.Bracket.{Bracket}
+use Rattle.drum_reached.specs.declared.bracket.Bracket.{Bracket}
 use Rattle.drum_loops.specs.Loops.{AreClosing}
 use Rattle.drum_command.specs.declared.command.Files.{Files}
 use Rattle.drum_command.specs.declared.command.Question.{Question}

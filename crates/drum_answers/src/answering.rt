@@ -21,7 +21,6 @@ use crate::telling::{
 };
 use drum_bound::{Analysis, Refusal};
 use drum_bracket::{Outline, WaitsInRounds};
-use drum_ceiling::Bracket;
 use drum_command::Question;
 use drum_devices::Output;
 use drum_documents::{Documents, bound_of, bracket_of};
@@ -29,6 +28,7 @@ use drum_graph::Graph;
 use drum_lines::{Fault, Status, tell_bound, tell_text};
 use drum_listing::{Size, Table, Waits};
 use drum_picture::{picture, picture_in_rounds};
+use drum_reached::Bracket;
 use std::alloc::{AllocError, Global};
 
 /// The most bytes of a picture that is printed.

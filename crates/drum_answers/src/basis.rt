@@ -7,13 +7,13 @@ ghost use Rattle.drum_answers.specs.Basis.{IsBasis};
 
 use crate::analysis::analysis_of;
 use drum_bound::{Analysis, Refusal};
-use drum_ceiling::Bracket;
 use drum_documents::{Documents, bracket_of};
 use drum_lines::Fault;
+use drum_reached::Bracket;
 use std::alloc::Global;
 
 /// What a worst walk is told by.
-#[derive(Debug, Drop)]
+#[derive(Drop)]
 pub enum Basis {
     /// A walk that takes as long as the bound.
     Bound(Analysis),

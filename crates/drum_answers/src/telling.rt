@@ -24,13 +24,13 @@ ghost use Rattle.drum_answers.specs.Says.{status_after_check};
 
 use drum_bound::Analysis;
 use drum_bracket::{Outline, WaitsInRounds, list_rounds, list_rounds_waits, report_ceiling};
-use drum_ceiling::Bracket;
 use drum_check::{Findings, Lacking, list_findings};
 use drum_devices::Output;
 use drum_documents::Documents;
 use drum_graph::{Graph, send_graph};
 use drum_lines::{Status, ended};
 use drum_listing::{Table, Waits, list_table, list_waits, list_walk};
+use drum_reached::Bracket;
 use drum_report::report;
 
 /// Writes the report of an analysis.

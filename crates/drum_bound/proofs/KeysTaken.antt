@@ -6,7 +6,6 @@ use Rattle.drum_times.specs.Allowed.{AreSound}
 use Rattle.drum_order.proofs.Lists.{contains_from_get}
 use Rattle.drum_flow.specs.Hops.{Hop, hops}
 use Rattle.drum_flow.specs.Walk.{Setting}
-use Rattle.drum_bound.proofs.FewHops.{few_hops}
 use Rattle.drum_bound.specs.declared.cells.Cells.{Cells}
 use Rattle.drum_bound.specs.declared.latest.Latest.{Latest}
 use Rattle.drum_bound.specs.declared.scan.Scan.{Scan}
@@ -14,6 +13,7 @@ use Rattle.drum_bound.specs.Keys.{place_at}
 use Rattle.drum_bound.specs.Scanned.{cell_at, Taking, turns_at, turns_below}
 use Rattle.drum_bound.specs.ScanOf.{setting_in, order_of, AreCells, IsScanned, IsAgreed}
 use Rattle.drum_bound.specs.InCells.{kept_in}
+use Rattle.drum_bound.proofs.FewHops.{few_hops}
 use Rattle.drum_bound.proofs.Scans.{skip, open_key, close_key}
 
 -- the hops of keys whose cells are the same are as many

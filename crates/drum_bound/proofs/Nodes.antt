@@ -11,17 +11,16 @@ use Rattle.drum_core.specs.declared.location.Location.{Location}
 use Rattle.drum_times.specs.declared.notes.mark.Mark.{Mark}
 use Rattle.drum_machine.specs.Counts.{AreWithin}
 use Rattle.drum_order.specs.Graph.{AreDifferent}
-use Rattle.drum_order.proofs.Lists.{get_written, get_other}
+use Rattle.drum_order.proofs.Lists.{get_other, get_written, one_place}
 use Rattle.drum_flow.specs.Accepted.{counts_of}
 use Rattle.drum_flow.specs.Passes.{leading, leading-<}
 use Rattle.drum_acceptance.specs.AcceptedFlow.{in_order}
-use Rattle.drum_acceptance.proofs.FreeRows.{one_place}
 use Rattle.drum_bound.specs.declared.keys.Keys.{Keys}
 use Rattle.drum_bound.specs.declared.keys.Node.{Node}
 use Rattle.drum_bound.specs.Digits.{digits}
-use Rattle.drum_bound.proofs.DigitsLaws.{digits_leading}
 use Rattle.drum_bound.specs.Keys.{keys_of, IsKey}
 use Rattle.drum_bound.specs.KeysOf.{AreKeys, HaveIndices, numbers, nodes_in}
+use Rattle.drum_bound.proofs.DigitsLaws.{digits_leading}
 
 -- each of the first locations' place stands at its number
 abbrev pub HaveIndicesBelow : ℕ → List Location → List ℕ → Type 0

@@ -4,25 +4,24 @@ use Rattle.std.proofs.Common.{◌≡◌, ℕ, zero, suc, ◌+◌, ◌-◌, ◌*�
 use Rattle.std.proofs.Common.{ap, sym, ◌∙◌, subst, Some, arith}
 use Rattle.std.specs.Prelude.{slice_get, Contains}
 use Rattle.std.specs.Map.{keys_of as map_keys, values_of}
-use Rattle.drum_order.proofs.Lists.{contains_at, contains_map}
+use Rattle.drum_order.proofs.Lists.{contains_at, contains_map, one_place}
 use Rattle.drum_order.proofs.Lists.{contains_from_get}
 use Rattle.drum_flow.specs.Accepted.{counts_of}
 use Rattle.drum_flow.specs.Walk.{Setting}
-use Rattle.drum_acceptance.proofs.FreeRows.{one_place}
 use Rattle.drum_bound.specs.declared.cells.Cells.{Cells}
 use Rattle.drum_bound.specs.declared.latest.Latest.{Latest}
 use Rattle.drum_bound.specs.declared.key_hop.KeyHop.{KeyHop}
 use Rattle.drum_bound.specs.declared.worst.Worst.{Worst}
 use Rattle.drum_bound.specs.InCells.{kept_in, size_of}
 use Rattle.drum_bound.specs.InEntries.{latest_at, pairs_of}
-use Rattle.drum_bound.proofs.EntryKeys.{different_keys, entry_kept, pair_at}
-use Rattle.drum_bound.proofs.InCellsLaws.{is_entered, kept_is, IsEntered}
 use Rattle.drum_bound.specs.Keys.{keys_of, IsOrdered}
 use Rattle.drum_bound.specs.RowOf.{counts_number, row_in, row_of}
-use Rattle.drum_bound.proofs.Rows.{AreRowsOf, IsRowOf, one_row}
 use Rattle.drum_bound.specs.Scanned.{cell_at}
 use Rattle.drum_bound.specs.Table.{start_angle, Row, AreApart}
 use Rattle.drum_bound.specs.ScanOf.{AreCells}
+use Rattle.drum_bound.proofs.EntryKeys.{different_keys, entry_kept, pair_at}
+use Rattle.drum_bound.proofs.InCellsLaws.{is_entered, kept_is, IsEntered}
+use Rattle.drum_bound.proofs.Rows.{AreRowsOf, IsRowOf, one_row}
 
 -- a row is an entry's
 row_entry : (entries : List Worst) (k : ℕ) (row : Row) → slice_get (map row_in entries) k ≡ Some row → (entry : Worst)

@@ -18,7 +18,7 @@ use std::alloc::{AllocError, Global};
 use std::sync::ledger::Ledger;
 
 /// Where a hop that no full mark bars goes on.
-#[derive(Clone, Copy, Debug)]
+#[derive(Clone, Copy)]
 pub struct Onto {
     pub key: usize,
     /// The number of the key's counts, with the first mark's leading.

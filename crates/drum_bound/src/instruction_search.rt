@@ -3,7 +3,7 @@
 use drum_core::Location;
 
 /// The search for the instruction of a key.
-#[derive(Clone, Copy, Debug)]
+#[derive(Clone, Copy)]
 pub struct InstructionSearch {
     pub key: usize,
     /// The key's location.

@@ -24,7 +24,7 @@ use drum_times::Mark;
 use std::alloc::{AllocError, Global};
 
 /// An executed location, and its hops.
-#[derive(Clone, Copy, Debug)]
+#[derive(Clone, Copy)]
 pub struct Node<'a> {
     pub location: Location,
     pub hops: Hops<'a>,
@@ -33,7 +33,7 @@ pub struct Node<'a> {
 /// The executed locations, in an order in which each edge free of marks goes on, with the counts
 /// that the marks can have. A key is a number: that of the counts, with the first mark's leading,
 /// times the number of the locations, and the index of one among them.
-#[derive(Debug, Drop)]
+#[derive(Drop)]
 pub struct Keys<'a> {
     pub accepted: &'a AcceptedFlow<'a>,
     /// The locations, in order.

@@ -20,7 +20,7 @@ use std::alloc::{AllocError, Global};
 const MOST_LEAPS: usize = 262_144;
 
 /// A hop of a location, with what can be known of it before the scan.
-#[derive(Clone, Copy, Debug)]
+#[derive(Clone, Copy)]
 pub struct Leap {
     pub hop: Hop,
     /// The most word times that it takes from when its instruction is found, which is at an angle

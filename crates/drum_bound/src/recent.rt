@@ -56,7 +56,7 @@ fn is_like(hop: Hop, other: Hop) -> bool
 
 /// Leaps of one location's hops, from when its instruction is found at one angle: for each angle of
 /// D the last that was made. A hop that is like its hop takes as long.
-#[derive(Debug, Drop)]
+#[derive(Drop)]
 pub struct Recent {
     leaps: [Option<Leap>; ANGLES],
 }

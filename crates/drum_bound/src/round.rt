@@ -13,7 +13,7 @@ use drum_machine::Counts;
 use drum_times::Mark;
 
 /// Counts of the marks, as the keys and the table of worst times have them.
-#[derive(Clone, Copy, Debug)]
+#[derive(Clone, Copy)]
 pub struct Counted {
     /// Their number, with the first mark's leading.
     pub round: usize,
@@ -24,7 +24,7 @@ pub struct Counted {
 }
 
 /// The keys that have the same counts, one of each location.
-#[derive(Debug, Drop)]
+#[derive(Drop)]
 pub struct Round {
     /// Their own counts.
     pub own: Counted,

@@ -19,7 +19,7 @@ use std::alloc::{AllocError, Global};
 use std::sync::ledger::Ledger;
 
 /// What is known when some of the keys have been taken: the latest end at each key, and of all.
-#[derive(Debug, Drop)]
+#[derive(Drop)]
 pub struct Scan<'a> {
     times: &'a Times,
     pub keys: &'a Keys<'a>,

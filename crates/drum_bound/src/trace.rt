@@ -25,7 +25,7 @@ use std::alloc::{AllocError, Global};
 
 /// A walk, and how often it passes each mark, by the marks' indices; what stands past the last mark
 /// means nothing.
-#[derive(Debug, Drop)]
+#[derive(Drop)]
 pub struct Trace {
     pub visits: Vec<Visit>,
     pub passed: [u64; Mark::MOST],

@@ -19,16 +19,16 @@ use Rattle.drum_walks.specs.declared.piece.Rounds.{Rounds}
 use Rattle.drum_walks.specs.Pieces.{repeated, seen_placed, spelled, spelled_at, spelled_behind, spelled_by, spelled_of, PlacedHop}
 use Rattle.drum_rounds.specs.InRounds.{takes}
 use Rattle.drum_rounds.proofs.SpelledLaws.{spelled_before, spelled_last, spelled_piece}
-use Rattle.drum_bracket.proofs.Lists.{at_before, at_last, at_none, at_taken, long_taken, past, split_at}
 use Rattle.drum_bracket.specs.declared.teller.Teller.{Teller}
 use Rattle.drum_bracket.specs.RoundsText.{again_line, at_time, both, end_rounds_line, first_place, is_part}
 use Rattle.drum_bracket.specs.RoundsText.{last_place, part_again, rounds_line}
 use Rattle.drum_bracket.specs.RoundsText.{one_more, placed_line, tell, tell_behind, tell_by, tell_named, tell_one}
 use Rattle.drum_bracket.specs.RoundsText.{tell_part, tell_rounds, tell_row, Telling, PartsSoFar}
-use Rattle.drum_bracket.proofs.Passing.{begin_rounds, end_rounds}
 use Rattle.drum_bracket.specs.declared.progress.Progress.{Progress}
 use Rattle.drum_bracket.specs.ProgressOf.{told_of}
 use Rattle.drum_bracket.specs.TellerOf.{lasts_of, named_told, piece_told, pieces_in, row_told, tellings, IsTeller}
+use Rattle.drum_bracket.proofs.Lists.{at_before, at_last, at_none, at_taken, long_taken, past, split_at}
+use Rattle.drum_bracket.proofs.Passing.{begin_rounds, end_rounds}
 
 -- ---- lists of tellings
 

@@ -12,7 +12,7 @@ use drum_lines::{WriteFault, four_digits, send};
 use itoa::Buffer;
 
 /// A line that is no hop's. Times are in word times.
-#[derive(Clone, Copy, Debug)]
+#[derive(Clone, Copy)]
 pub enum PartLine {
     /// A part begins, by its number.
     Part(usize),

@@ -7,10 +7,10 @@ use Rattle.std.proofs.lemmas.Bool.Decides.{Decides-eqb, Decides-and}
 use Rattle.std.proofs.lemmas.Option.{none-some, same_Some}
 use Rattle.drum_times.specs.declared.notes.mark.Mark.{Mark}
 use Rattle.drum_order.specs.Graph.{AreDifferent}
+use Rattle.drum_order.proofs.Lists.{one_place}
 use Rattle.drum_flow.specs.Executed.{same_node}
 use Rattle.drum_flow.specs.Hops.{Node}
 use Rattle.drum_flow.proofs.Links.{node_law}
-use Rattle.drum_acceptance.proofs.FreeRows.{one_place}
 use Rattle.drum_rows.specs.declared.sites.Site.{Site}
 use Rattle.drum_rows.specs.Sites.{AreSites, IsSite}
 use Rattle.drum_rows.proofs.SiteKeys.{site_same}

@@ -27,7 +27,7 @@ use drum_times::Mark;
 /// Prices of the marks with what they stand for: what is owed where an instruction is found is the
 /// level there, and of each mark in whose region that is its price for each pass that is left; less
 /// the debt, but never below 0.
-#[derive(Debug, Drop)]
+#[derive(Drop)]
 pub struct Certificate {
     /// The price of a pass of each mark.
     pub prices: Vec<u128>,

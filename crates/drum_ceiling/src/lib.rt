@@ -1,7 +1,6 @@
 //! A number of word times that no run which keeps to the notes ever exceeds, whatever the marks'
-//! counts are, and a price for each time round a mark's loop; and beside it a walk in rounds, so
-//! that the worst time is between the two. It stands on the flow graph and its rows, and not on the
-//! analysis.
+//! counts are, and a price for each time round a mark's loop. It stands on the flow graph and its
+//! rows, and not on the analysis.
 //!
 //! Code, from the bottom up. The rows of `drum_rows` say what the hops from each site take at most,
 //! and where they lead; `longest` is the longest step of all. `drum_ceiling_search` finds prices of
@@ -9,14 +8,12 @@
 //! looks whether they pay for every hop, where `step` tells what the marks charge for it, by each
 //! `region`. `size` has what neither total nor price is above, by the passes `in_rounds` of the
 //! marks, and `prices` such prices as are surely high enough. `finding` takes the lower ones, and
-//! `answer` is what is handed out. `bracket` has the walk beside it, whose pieces
-//! `drum_rounds_search` looks for and `drum_rounds` checks. `laws` has laws of the definitions.
+//! `answer` is what is handed out. `laws` has laws of the definitions.
 //!
 //! Definitions, in the order to read them: `Certificate` (what is owed for a node, an angle and
 //! counts, so that it pays for every hop), `Affine` (the form of it that is looked for), `Rounds`
 //! (what a time round a mark's loop takes), `Size` (what no ceiling is above), `Right` (when a
-//! ceiling is right), `CeilingOf` (the same of what is handed out, and why there is none),
-//! `BracketOf` (of a ceiling with a walk). The
+//! ceiling is right), `CeilingOf` (the same of what is handed out, and why there is none). The
 //! others say what the code's types mean by these: `AtSite` (levels and regions at the numbers of
 //! sites), `Charge`, `Paying`, `InRounds` and `Sized`.
 //!
@@ -30,7 +27,6 @@
 #![tactic(auto)]
 
 mod answer;
-mod bracket;
 mod certificate;
 mod finding;
 mod in_rounds;
@@ -42,5 +38,4 @@ mod size;
 mod step;
 
 pub use answer::Ceiling;
-pub use bracket::{Bracket, reached};
 pub use finding::ceiling;

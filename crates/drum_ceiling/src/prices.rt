@@ -25,7 +25,7 @@ use drum_times::Mark;
 use std::alloc::{AllocError, Global};
 
 /// A price for each mark, and the total.
-#[derive(Debug, Drop)]
+#[derive(Drop)]
 pub struct Prices {
     pub prices: Vec<u128>,
     pub total: u128,

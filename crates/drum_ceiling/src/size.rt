@@ -10,7 +10,7 @@ use drum_flow::Flow;
 use std::alloc::{AllocError, Global};
 
 /// A number that no ceiling need be above, with what it is made of.
-#[derive(Debug, Drop)]
+#[derive(Drop)]
 pub struct Size {
     /// How many passes there are in one round of each mark at most; 2^127 where that is more.
     pub rounds: Vec<u128>,

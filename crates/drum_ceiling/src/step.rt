@@ -8,7 +8,7 @@ use drum_machine::is_inside;
 use drum_times::Mark;
 
 /// A step from where one instruction is found to where another is.
-#[derive(Clone, Copy, Debug)]
+#[derive(Clone, Copy)]
 pub struct Step<'a> {
     pub marks: &'a [Mark],
     /// The regions that it begins in.

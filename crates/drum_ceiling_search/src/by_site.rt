@@ -3,7 +3,7 @@
 use std::alloc::{AllocError, Global};
 
 /// A number for each site; none, where nothing is known.
-#[derive(Debug, Drop)]
+#[derive(Drop)]
 pub struct BySite {
     pub entries: Vec<Option<i128>>,
 }
@@ -33,7 +33,7 @@ impl BySite {
 }
 
 /// Some of the marks for each site: bit j stands for the mark with index j.
-#[derive(Debug, Drop)]
+#[derive(Drop)]
 pub struct Bits {
     pub entries: Vec<u64>,
 }

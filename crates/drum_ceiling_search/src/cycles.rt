@@ -5,14 +5,14 @@ use crate::ways::Ways;
 use std::alloc::{AllocError, Global};
 
 /// The cycles of the longest ways from heads.
-#[derive(Debug, Drop)]
+#[derive(Drop)]
 pub struct Cycles {
     /// By site, the number of the head from which it was come to first.
     seen: BySite,
 }
 
 /// What some ways take, and how many they are.
-#[derive(Clone, Copy, Debug)]
+#[derive(Clone, Copy)]
 struct Lap {
     time: i128,
     ways: u128,

@@ -7,7 +7,7 @@ use crate::marks::Standing;
 use std::alloc::{AllocError, Global};
 
 /// Prices of the marks, with what goes with them.
-#[derive(Debug, Drop)]
+#[derive(Drop)]
 pub struct Found {
     /// The price of a pass of each mark.
     pub prices: Vec<u128>,

@@ -9,7 +9,7 @@ use drum_times::Mark;
 use std::alloc::{AllocError, Global};
 
 /// The rows of where walks come, with the marks and their regions.
-#[derive(Debug, Drop)]
+#[derive(Drop)]
 pub struct Graph<'a> {
     pub reached: Reached<'a>,
     pub marks: Marks,

@@ -8,7 +8,7 @@ use drum_rows::{SiteEdge, SiteRow};
 use std::alloc::{AllocError, Global};
 
 /// The most word times from each site on, less prices: below 0 where prices pay for all.
-#[derive(Debug, Drop)]
+#[derive(Drop)]
 pub struct Levels {
     pub owed: BySite,
     /// How many edges were looked at.

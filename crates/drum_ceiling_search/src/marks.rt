@@ -5,7 +5,7 @@ use drum_times::Mark;
 use std::alloc::{AllocError, Global};
 
 /// A mark among others. Sets of marks are bits: bit j stands for the mark with index j.
-#[derive(Clone, Copy, Debug)]
+#[derive(Clone, Copy)]
 pub struct Standing {
     /// The mark itself.
     pub bit: u64,
@@ -26,7 +26,7 @@ pub fn bit_of(mark: u8) -> u64 {
 }
 
 /// The marks, in their order.
-#[derive(Debug, Drop)]
+#[derive(Drop)]
 pub struct Marks {
     pub list: Vec<Standing>,
     /// Those that may never be passed.

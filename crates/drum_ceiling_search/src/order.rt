@@ -4,7 +4,7 @@ use crate::marks::{Marks, Standing, bit_of};
 use std::alloc::{AllocError, Global};
 
 /// A mark, with how it stands among others.
-#[derive(Clone, Copy, Debug)]
+#[derive(Clone, Copy)]
 struct Placed {
     mark: u8,
     standing: Standing,

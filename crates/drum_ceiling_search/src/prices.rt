@@ -6,7 +6,7 @@ use drum_rows::SiteEdge;
 use std::alloc::{AllocError, Global};
 
 /// A price for each mark.
-#[derive(Debug, Drop)]
+#[derive(Drop)]
 pub struct Prices {
     pub list: Vec<i128>,
     /// What all passes of each mark cost, until one is passed that it stands inside of.
@@ -14,7 +14,7 @@ pub struct Prices {
 }
 
 /// What an edge costs in prices beside its time.
-#[derive(Clone, Copy, Debug)]
+#[derive(Clone, Copy)]
 pub struct Cost {
     /// What its mark's price pays, of the time and of the charge.
     pub pay: i128,

@@ -6,7 +6,7 @@ use drum_rows::SiteRow;
 use std::alloc::{AllocError, Global};
 
 /// The rows of where walks come.
-#[derive(Debug, Drop)]
+#[derive(Drop)]
 pub struct Reached<'a> {
     rows: &'a [SiteRow],
     /// Where the start is found.
@@ -52,7 +52,7 @@ impl<'a> Reached<'a> {
 }
 
 /// Visits from site to site.
-#[derive(Debug, Drop)]
+#[derive(Drop)]
 struct Visits {
     /// The sites that were met, each with some bit.
     seen: Bits,

@@ -13,7 +13,7 @@ use std::alloc::{AllocError, Global};
 const MOST_LOOKS: usize = 4;
 
 /// The tables that a mark's rounds are looked for with.
-#[derive(Debug, Drop)]
+#[derive(Drop)]
 pub struct Rounds {
     pub ways: Ways,
     cycles: Cycles,

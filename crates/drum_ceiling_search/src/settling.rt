@@ -9,7 +9,7 @@ use crate::ways::Sought;
 use std::alloc::{AllocError, Global};
 
 /// The regions of the marks, and the tables that prices are looked for with.
-#[derive(Debug, Drop)]
+#[derive(Drop)]
 pub struct Settling {
     /// By mark, the sites of its region in the order.
     regions: Vec<Vec<usize>>,

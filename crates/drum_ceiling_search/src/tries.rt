@@ -20,7 +20,7 @@ const TURNS: u8 = 8;
 const HALVES: u8 = 127;
 
 /// The best prices that were tried, and how they came about.
-#[derive(Debug, Drop)]
+#[derive(Drop)]
 struct Best {
     order: Vec<u8>,
     /// By mark, a price that its price isn't lower than.
@@ -31,7 +31,7 @@ struct Best {
 }
 
 /// Tries, with the best of them.
-#[derive(Debug, Drop)]
+#[derive(Drop)]
 pub struct Tries<'a> {
     alloc: Global,
     graph: &'a Graph<'a>,

@@ -8,7 +8,7 @@ use drum_rows::{SiteEdge, SiteRow};
 use std::alloc::{AllocError, Global};
 
 /// A way that passes a mark with its last edge, and no other edge of it.
-#[derive(Clone, Copy, Debug, PartialEq)]
+#[derive(Clone, Copy, PartialEq)]
 pub struct Round {
     /// The word times that it takes, less prices, with what is ahead of its end.
     pub time: i128,
@@ -28,7 +28,7 @@ impl Round {
 }
 
 /// The longest way from each site of a mark's region; none, where none was found.
-#[derive(Debug, Drop)]
+#[derive(Drop)]
 pub struct Ways {
     entries: Vec<Option<Round>>,
     /// How many edges were looked at.
@@ -36,7 +36,7 @@ pub struct Ways {
 }
 
 /// The ways that are looked for: to edges of a mark, along edges without marks and of some.
-#[derive(Clone, Copy, Debug)]
+#[derive(Clone, Copy)]
 pub struct Sought<'a> {
     pub graph: &'a Graph<'a>,
     pub prices: &'a Prices,

@@ -6,13 +6,12 @@ use Rattle.std.specs.Prelude.{Contains, Option, Some, None}
 use Rattle.drum_core.specs.declared.word.Word.{Word}
 use Rattle.drum_times.specs.Allowed.{Notes}
 use Rattle.drum_times.specs.Edges.{leads}
-use Rattle.drum_times.specs.Marks.{edges_of}
 use Rattle.drum_flow.specs.Hops.{Node}
 use Rattle.drum_flow.specs.Taken.{is_among}
 use Rattle.drum_loops.specs.Nested.{IsNested}
 use Rattle.drum_finding.specs.declared.within.Within.{Within}
 use Rattle.drum_finding.specs.declared.within.Within.TheVariants as within
-use Rattle.drum_finding.specs.Edges.{has_edge}
+use Rattle.drum_finding.specs.Edges.{has_edge, marked_edges, marks_of}
 use Rattle.drum_finding.specs.Finding.{Finding, closes}
 use Rattle.drum_check.specs.Those.{AreThose}
 

@@ -10,6 +10,7 @@ ghost use Rattle.drum_loops.specs.Loops.{AreClosing};
 ghost use Rattle.drum_finding.specs.Finding.{closes};
 ghost use Rattle.drum_finding.specs.FindingOf.{seen};
 ghost use Rattle.drum_finding.specs.declared.within.Within.TheVariants as within;
+ghost use Rattle.drum_finding.specs.Edges as of_marks;
 ghost use Rattle.drum_check.specs.FindingsOf.{IsInsideIn};
 ghost use Rattle.drum_check.specs.KnownInside.{AreKnown};
 ghost use Rattle.drum_check.specs.Insides as said;
@@ -32,7 +33,7 @@ use std::alloc::{AllocError, Global};
 pub const MOST_EDGES: usize = 64;
 
 /// An edge, with inside how many loops its own stands.
-#[derive(Clone, Copy, Debug)]
+#[derive(Clone, Copy)]
 struct Counted {
     edge: Edge,
     many: usize,
@@ -136,7 +137,7 @@ fn told_inside(
 ) -> Result<Vec<Finding>, AllocError>
     requires { AreKnown nesting.now }
     ensures { IfOk result (λ loops. AreToldInside (IsToldBehind (IsInsideIn nesting.now.flow.now)
-        (said.marks_of nesting.now.flow.now.notes.now) (map (λ head. head.number) shared.now)
+        (of_marks.marks_of nesting.now.flow.now.notes.now) (map (λ head. head.number) shared.now)
         (map edge_of edges.now)) [] (map edge_of edges.now) (map seen loops.items)) }
 {
     let all = all_marks(alloc, nesting.flow, shared, edges)?;
@@ -163,7 +164,7 @@ fn told_apart(
     edges: &[Edge],
 ) -> Result<Vec<Finding>, AllocError>
     requires known { AreKnown nesting.now }
-    requires marked { map edge_of marked.now ≡ said.marked_edges nesting.now.flow.now.notes.now }
+    requires marked { map edge_of marked.now ≡ of_marks.marked_edges nesting.now.flow.now.notes.now }
     ensures { IfOk result (λ loops. AreToldApart (IsInsideIn nesting.now.flow.now)
         nesting.now.flow.now.notes.now (map edge_of edges.now) (map seen loops.items)) }
 {
@@ -204,7 +205,7 @@ fn told_in_order(
     edges: &[Edge],
 ) -> Result<Vec<Finding>, AllocError>
     requires nodes { of_flow AreAllNodes flow.now (nodes_of flow.now) }
-    requires marked { map edge_of marked.now ≡ said.marked_edges flow.now.notes.now }
+    requires marked { map edge_of marked.now ≡ of_marks.marked_edges flow.now.notes.now }
     ensures { IfOk result (λ loops. (sorted : List (ℕ × ℕ))
         × IsPermutation (map edge_of edges.now) sorted
         × AreFewestFirst (IsInsideIn flow.now) sorted

@@ -13,7 +13,7 @@ use drum_times::Edge;
 use std::alloc::{AllocError, Global};
 
 /// Whether the loop of an inner edge stands inside that of an outer one.
-#[derive(Clone, Copy, Debug)]
+#[derive(Clone, Copy)]
 pub(crate) struct Known {
     pub(crate) outer: Edge,
     pub(crate) inner: Edge,
@@ -21,7 +21,7 @@ pub(crate) struct Known {
 }
 
 /// A flow graph, with what is known of which loops stand inside which others.
-#[derive(Debug, Drop)]
+#[derive(Drop)]
 pub struct Nesting<'a> {
     pub(crate) flow: &'a Flow<'a>,
     /// All of its links.

@@ -4,6 +4,7 @@
 ghost use Rattle.std.specs.Prelude.{◌≡◌, ◌++◌, ◌∷◌, [], ◌↔◌, IsTrue, IfOk, OnOk, filter, map};
 ghost use Rattle.std.specs.List.{list_any};
 ghost use Rattle.drum_times.specs.EdgeOf.{edge_of};
+ghost use Rattle.drum_finding.specs.Edges as of_marks;
 ghost use Rattle.drum_check.specs.FindingsOf.{IsInsideIn};
 ghost use Rattle.drum_check.specs.KnownInside.{AreKnown};
 ghost use Rattle.drum_check.specs.Insides as said;
@@ -174,7 +175,7 @@ pub fn all_marks(
     shared: &[Location],
     edges: &[Edge],
 ) -> Result<Vec<Edges>, AllocError>
-    ensures { IfOk result (λ all. all.items ≡ said.marks_of flow.now.notes.now
+    ensures { IfOk result (λ all. all.items ≡ of_marks.marks_of flow.now.notes.now
         ++ new_marks (map (λ head. head.number) shared.now) (map edge_of edges.now)
         (map edge_of edges.now)) }
 {

@@ -7,7 +7,7 @@ ghost use Rattle.drum_documents.specs.Joined.{AreParts, AreWholeLines, Begins, I
 ghost use Rattle.drum_documents.specs.PartsOf.{texts_of};
 
 /// The parts of the joined form.
-#[derive(Clone, Copy, Debug)]
+#[derive(Clone, Copy)]
 pub struct Parts<'a> {
     pub deck: &'a [u8],
     pub times: &'a [u8],

@@ -10,7 +10,7 @@ use std::alloc::AllocError;
 const WIDTH: u64 = 1180;
 
 /// One part of the bar.
-#[derive(Clone, Copy, Debug)]
+#[derive(Clone, Copy)]
 struct Share {
     ink: Ink,
     name: &'static str,

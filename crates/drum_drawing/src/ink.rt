@@ -5,7 +5,7 @@ use std::fmt;
 
 /// What something is drawn in. It is written as the attributes of an element: its class, and its
 /// colour on a light page. The colours can be told apart by people who don't see red from green.
-#[derive(Clone, Copy, Debug, PartialEq, Eq)]
+#[derive(Clone, Copy)]
 pub enum Ink {
     /// What stands beside a drawing.
     Faint,

@@ -20,7 +20,7 @@ const DIGITS: u64 = 19;
 const DIGIT_WIDTH: u64 = 6;
 
 /// Where the drawings stand on the page.
-#[derive(Clone, Copy, Debug, PartialEq, Eq)]
+#[derive(Clone, Copy)]
 pub struct Layout {
     /// How wide the page is.
     pub width: u64,

@@ -4,7 +4,7 @@ use crate::ink::Ink;
 use crate::layout::Layout;
 use crate::rings::Ring;
 use crate::verdict::write_verdict;
-use drum_lines::Verdict;
+use drum_machine::Verdict;
 use drum_scene::{Kind, MOST_EDGES, Walk};
 use std::alloc::AllocError;
 

@@ -57,7 +57,7 @@ const DIRECTIONS: [(i64, i64); 50] = [
 const HALF: (i64, i64) = (58, 998);
 
 /// A point of the drum's drawing, in tenths of a pixel from its centre.
-#[derive(Clone, Copy, Debug, PartialEq, Eq)]
+#[derive(Clone, Copy)]
 pub struct Point {
     /// To the right.
     pub x: i64,

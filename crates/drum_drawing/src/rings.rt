@@ -15,7 +15,7 @@ const ROOM: i64 = 1650;
 const HIGHEST: i64 = 420;
 
 /// A band in use, drawn as a ring.
-#[derive(Clone, Copy, Debug, PartialEq, Eq)]
+#[derive(Clone, Copy)]
 pub struct Ring {
     /// The band, 0 to 39.
     pub band: u16,

@@ -1,8 +1,7 @@
 //! The verdict on a run, in a few words.
 
 use drum_core::{Location, Word};
-use drum_lines::Verdict;
-use drum_machine::{Left, Why};
+use drum_machine::{Left, Verdict, Why};
 use std::alloc::AllocError;
 
 /// Why a run stops.

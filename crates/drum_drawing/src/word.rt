@@ -7,7 +7,7 @@ use std::alloc::AllocError;
 const DARK: u64 = 5;
 
 /// A word that is drawn.
-#[derive(Clone, Copy, Debug)]
+#[derive(Clone, Copy)]
 pub struct Word {
     /// Its location's number.
     pub number: u16,

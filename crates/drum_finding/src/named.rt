@@ -9,7 +9,7 @@ use drum_times::{Notes, Pattern};
 use std::alloc::{AllocError, Global};
 
 /// The drum words that executed instructions name as data, by a flag for each.
-#[derive(Debug, Drop)]
+#[derive(Drop)]
 pub struct Named {
     flags: Vec<bool>,
     ghost all: { vec_len flags ≡ 2000 },

@@ -10,7 +10,7 @@ use drum_times::Pattern;
 
 /// What the instructions of a pattern name whose data addresses follow one another: the drum words
 /// from a number on and below another one.
-#[derive(Clone, Copy, Debug)]
+#[derive(Clone, Copy)]
 pub struct Stretch {
     pub from: u16,
     pub below: u16,

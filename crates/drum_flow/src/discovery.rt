@@ -24,7 +24,7 @@ use drum_times::Notes;
 use std::alloc::{AllocError, Global};
 
 /// The nodes that discovery found.
-#[derive(Debug, Drop)]
+#[derive(Drop)]
 enum Discovery {
     /// All of them.
     Whole(Nodes),

@@ -16,7 +16,7 @@ use drum_machine::Card;
 const WORDS: usize = 10;
 
 /// A line of inputs.
-#[derive(Clone, Copy, Debug)]
+#[derive(Clone, Copy)]
 pub enum Line {
     /// `*` and any bytes.
     Comment,

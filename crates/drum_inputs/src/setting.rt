@@ -10,7 +10,7 @@ use crate::key::behind;
 use drum_core::Word;
 
 /// What a line states of a machine's setup, once at most.
-#[derive(Clone, Copy, Debug)]
+#[derive(Clone, Copy)]
 pub enum Setting {
     /// The drum's angle at time 0, below 50.
     Angle(u8),

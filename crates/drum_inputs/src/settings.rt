@@ -8,7 +8,7 @@ use crate::setting::Setting;
 use drum_core::Word;
 
 /// The settings that lines have stated so far, each as in `Setting`.
-#[derive(Clone, Copy, Debug)]
+#[derive(Clone, Copy)]
 pub struct Settings {
     pub angle: Option<u8>,
     pub switches: Option<Word>,

@@ -2,8 +2,8 @@
 use Rattle.std.specs.Prelude.{ℕ}
 use Rattle.drum_lines.specs.declared.status.Status.{Status}
 use Rattle.drum_lines.specs.declared.status.Status.TheVariants.{Done, Refused, Usage, Failed, Left}
-use Rattle.drum_lines.specs.declared.verdict.Verdict.{Verdict}
-use Rattle.drum_lines.specs.declared.verdict.Verdict.TheVariants as verdicts
+use Rattle.drum_machine.specs.declared.verdict.Verdict.{Verdict}
+use Rattle.drum_machine.specs.declared.verdict.Verdict.TheVariants as verdicts
 
 abbrev pub code_of : Status → ℕ
 code_of Done = 0

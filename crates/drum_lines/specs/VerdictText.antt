@@ -10,8 +10,8 @@ use Rattle.drum_machine.specs.declared.why.Why as whys
 use Rattle.drum_machine.specs.declared.why.Why.TheVariants as why
 use Rattle.drum_lines.specs.declared.limit.Limit.{Limit}
 use Rattle.drum_lines.specs.declared.limit.Limit.TheVariants.{Bound, Ceiling}
-use Rattle.drum_lines.specs.declared.verdict.Verdict.{Verdict}
-use Rattle.drum_lines.specs.declared.verdict.Verdict.TheVariants as verdict
+use Rattle.drum_machine.specs.declared.verdict.Verdict.{Verdict}
+use Rattle.drum_machine.specs.declared.verdict.Verdict.TheVariants as verdict
 
 -- what the reason of a stop is called
 abbrev pub why_name : whys.Why → List ℕ

@@ -1,14 +1,14 @@
 //! The lines that go out of the program: a bound, a verdict, or why there is none, and the status
 //! with which the program ends after it. They take no memory.
 //!
-//! Code. `fault` (with the status after each) and `part` are why a command has no answer. `verdict`
-//! is what a replay or a trace found, and `limit` by what its time is limited. `status` is how the
-//! program ends, and `failed_write` how much of a text went out. `print` has the parts of a line;
-//! `print/` writes each line. `print/fault_line` hands a fault to the one of its kind:
-//! `print/deck_fault`, `note_fault`, `input_fault`, `part_fault`, and `refusal_line` for what
-//! refuses an analysis (faults 31 to 37). `print/mark_name` has the pieces that end the line of a
-//! mark with a name. `telling` writes a text to the output that it is for, and tells the status
-//! then, after a write that failed too.
+//! Code. `fault` (with the status after each) and `part` are why a command has no answer. `limit`
+//! is by what the time of a replay or a trace is limited. `status` is how the program ends, and
+//! `failed_write` how much of a text went out. `print` has the parts of a line; `print/` writes
+//! each line. `print/fault_line` hands a fault to the one of its kind: `print/deck_fault`,
+//! `note_fault`, `input_fault`, `part_fault`, and `refusal_line` for what refuses an analysis
+//! (faults 31 to 37). `print/mark_name` has the pieces that end the line of a mark with a name.
+//! `telling` writes a text to the output that it is for, and tells the status then, after a write
+//! that failed too.
 //!
 //! Definitions, in the order to read them: `BoundText`, `VerdictText` and `FaultText` are the
 //! lines, and `NameText` is how the line of a mark ends with its name. `Status` is the number of
@@ -28,7 +28,6 @@ mod part;
 mod print;
 mod status;
 mod telling;
-mod verdict;
 
 pub use failed_write::WriteFault;
 pub use fault::Fault;
@@ -42,4 +41,3 @@ pub use status::Status;
 pub use telling::{
     complain, ended, tell_bound, tell_fault, tell_faults, tell_text, tell_usage, tell_verdict,
 };
-pub use verdict::Verdict;

@@ -1,5 +1,7 @@
 ghost use Rattle.std.specs.Prelude.{◌≡◌};
-ghost use Rattle.drum_lines.specs.Status.{code_of};
+ghost use Rattle.drum_lines.specs.Status.{code_of, status_of};
+
+use drum_machine::Verdict;
 
 /// How the program ends.
 #[derive(Clone, Copy, Debug, PartialEq, Eq)]
@@ -27,6 +29,16 @@ impl Status {
             Status::Usage => 2,
             Status::Failed => 3,
             Status::Left => 4,
+        }
+    }
+
+    /// The status with which the program ends with this verdict.
+    pub fn after(verdict: &Verdict) -> Status
+        ensures { result ≡ status_of verdict.now }
+    {
+        match verdict {
+            Verdict::Kept { .. } => Status::Done,
+            Verdict::Left { .. } => Status::Left,
         }
     }
 }

@@ -15,8 +15,8 @@ use crate::print::fault_line::write_fault;
 use crate::print::verdict_line::write_verdict;
 use crate::print::{write_bound, write_text};
 use crate::status::Status;
-use crate::verdict::Verdict;
 use drum_devices::Output;
+use drum_machine::Verdict;
 
 /// How the program ends once a result was written.
 pub fn ended(written: Result<(), WriteFault>, done: Status) -> Status
@@ -44,7 +44,7 @@ pub fn tell_verdict<O: Output>(out: &mut O, limit: Limit, verdict: &Verdict) -> 
         (device (O.written out.new) (O.failed out.new)) (verdict_text limit verdict.now)
         (status_of verdict.now) result }
 {
-    ended(write_verdict(out, limit, verdict), verdict.status())
+    ended(write_verdict(out, limit, verdict), Status::after(verdict))
 }
 
 /// Writes the line of a fault, and tells how the program ends after it: a write that fails changes

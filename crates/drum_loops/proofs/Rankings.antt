@@ -4,8 +4,7 @@ use Rattle.std.specs.Prelude.{slice_get, slice_index}
 use Rattle.std.proofs.lemmas.Bool.{cases_eq}
 use Rattle.std.proofs.lemmas.Option.{get_or_from_slice_get}
 use Rattle.drum_order.specs.Graph.{AreDifferent}
-use Rattle.drum_order.proofs.Lists.{get_written, get_other}
-use Rattle.drum_acceptance.proofs.FreeRows.{one_place}
+use Rattle.drum_order.proofs.Lists.{get_other, get_written, one_place}
 use Rattle.drum_loops.specs.Arranged.{IsBefore}
 use Rattle.drum_loops.specs.Ranks.{AreRanks}
 use Rattle.drum_loops.proofs.Befores.{before_places}

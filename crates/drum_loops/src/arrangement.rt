@@ -5,7 +5,7 @@ use drum_order::Graph;
 use std::alloc::{AllocError, Global};
 
 /// A depth-first search that puts a graph's nodes into an order.
-#[derive(Debug, Drop)]
+#[derive(Drop)]
 pub(crate) struct Arrangement {
     /// Whether it has met each node.
     pub(crate) met: Vec<bool>,

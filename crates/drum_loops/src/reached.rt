@@ -14,7 +14,7 @@ use drum_order::Graph;
 use std::alloc::{AllocError, Global};
 
 /// Nodes that were reached, by their indices: each once, in the order in which they were.
-#[derive(Debug, Drop)]
+#[derive(Drop)]
 pub(crate) struct Reached {
     /// Whether each node was.
     pub(crate) flags: Vec<bool>,

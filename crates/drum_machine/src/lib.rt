@@ -8,7 +8,8 @@
 //! end, and `written` which drum words it writes. `passes` is what the pass of a mark does to each
 //! count. `counts` is how often marks are passed (of as many as `Mark::MOST` says), and that a full
 //! mark isn't passed again. `open` is which exits of subroutines are open, and with which way back.
-//! `left` is how a run left the notes. `laws` has laws of the definitions.
+//! `left` is how a run left the notes, and `verdict` what is found of a run. `laws` has laws of the
+//! definitions.
 //!
 //! Definitions, in the order to read them: `Contents` (what a machine holds), `Effect` (what an
 //! operation does to it, and which stop it meets), `Timing` (the moments of a step: when its word
@@ -36,6 +37,7 @@ pub mod moments;
 mod open;
 mod passes;
 mod shifting;
+mod verdict;
 mod ways;
 mod why;
 mod written;
@@ -46,6 +48,7 @@ pub use left::Left;
 pub use open::Open;
 pub use passes::{count_pass, is_inside};
 pub use shifting::places;
+pub use verdict::Verdict;
 pub use ways::{Way, Ways};
 pub use why::Why;
 pub use written::writes;

@@ -7,7 +7,7 @@ use crate::progress::Progress;
 use std::alloc::{AllocError, Global};
 
 /// A depth-first search of a graph.
-#[derive(Debug, Drop)]
+#[derive(Drop)]
 pub struct Search {
     /// How far it has come with each node.
     pub states: Vec<Progress>,

@@ -16,7 +16,7 @@ const MOST_HOPS: usize = 900;
 const MOST_STEPS: usize = 1 << 21;
 
 /// A piece that is gone through.
-#[derive(Clone, Copy, Debug)]
+#[derive(Clone, Copy)]
 struct Open<'a> {
     number: usize,
     rounds: Rounds<'a>,
@@ -27,7 +27,7 @@ struct Open<'a> {
 }
 
 /// Where the way through the walk is.
-#[derive(Debug, Drop)]
+#[derive(Drop)]
 pub struct Going<'a> {
     pieces: &'a [Weighed<'a>],
     /// Which of them were gone through.

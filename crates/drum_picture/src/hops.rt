@@ -12,7 +12,7 @@ const FIRST_ROWS: usize = 6;
 const MOST_VISITS: usize = 1200;
 
 /// Hops that are taken one after the other, from the first of a walk on.
-#[derive(Clone, Copy, Debug)]
+#[derive(Clone, Copy)]
 pub struct Hops<'a> {
     pub visits: &'a [Visit],
     /// The drum's angle when the walk begins.

@@ -3,7 +3,7 @@
 use crate::hops::Hops;
 use crate::run::Run;
 use drum_deck::Deck;
-use drum_lines::Verdict;
+use drum_machine::Verdict;
 use drum_scene::{Braces, Edges, Kind, Scene, Walk};
 use drum_times::{Notes, Times};
 use std::alloc::{AllocError, Global};

@@ -7,7 +7,7 @@ use std::alloc::{AllocError, Global};
 use std::slice;
 
 /// So many rounds of earlier pieces in a row.
-#[derive(Clone, Copy, Debug)]
+#[derive(Clone, Copy)]
 pub struct Rounds<'a> {
     pub times: u16,
     /// The numbers of the pieces.
@@ -15,21 +15,21 @@ pub struct Rounds<'a> {
 }
 
 /// A hop, begun at the moment 0 of a walk from its angle.
-#[derive(Clone, Copy, Debug)]
+#[derive(Clone, Copy)]
 pub struct PieceHop {
     pub visit: Visit,
     pub parts: Parts,
 }
 
 /// What a piece is.
-#[derive(Clone, Copy, Debug)]
+#[derive(Clone, Copy)]
 pub enum Content<'a> {
     Hop(PieceHop),
     Rounds(Rounds<'a>),
 }
 
 /// A piece, with what it comes to.
-#[derive(Clone, Copy, Debug)]
+#[derive(Clone, Copy)]
 pub struct Weighed<'a> {
     pub content: Content<'a>,
     /// The word times that it takes; of rounds those of one.

@@ -15,7 +15,7 @@ const MOST_KEPT: usize = 1 << 20;
 const LATEST_BEGUN: u64 = (1 << 50) - 1;
 
 /// A run, as far as its steps were taken in.
-#[derive(Debug, Drop)]
+#[derive(Drop)]
 pub struct Run {
     /// The drum's angle when it begins.
     pub angle: u64,

@@ -8,7 +8,7 @@ use Rattle.drum_machine.specs.Run.{Stride}
 use Rattle.drum_emulator.specs.declared.setup.Setup.{Setup}
 use Rattle.drum_flow.specs.Walk.{Setting}
 use Rattle.drum_walks.specs.Worst.{IsWorst}
-use Rattle.drum_lines.specs.declared.verdict.Verdict.{Verdict}
+use Rattle.drum_machine.specs.declared.verdict.Verdict.{Verdict}
 use Rattle.drum_replay.specs.declared.replaying.Begun.{Begun}
 use Rattle.drum_replay.specs.Begun.{IsBegun, left_before}
 use Rattle.drum_replay.specs.Following.{IsFollowed, state_of, waits_of}

@@ -9,7 +9,7 @@ use Rattle.drum_walks.specs.Worst.{IsWorst}
 use Rattle.drum_lines.specs.declared.fault.Fault as fails
 use Rattle.drum_lines.specs.declared.fault.Fault.TheVariants as fault
 use Rattle.drum_lines.specs.declared.limit.Limit as limits
-use Rattle.drum_lines.specs.declared.verdict.Verdict.{Verdict}
+use Rattle.drum_machine.specs.declared.verdict.Verdict.{Verdict}
 use Rattle.drum_replay.specs.declared.replaying.Begun.{Begun}
 use Rattle.drum_replay.specs.Begun.{IsBegun, IsReplayBegun}
 use Rattle.drum_replay.specs.Following.{IsFollowed, state_of, waits_of}

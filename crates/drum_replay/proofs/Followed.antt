@@ -29,7 +29,7 @@ use Rattle.drum_monitor.specs.declared.monitor.Monitor.{Monitor}
 use Rattle.drum_monitor.specs.Monitor.{HasSeenKept, answer_of}
 use Rattle.drum_flow.specs.Walk.{Setting}
 use Rattle.drum_flow.specs.Bounded.{IsBounded}
-use Rattle.drum_lines.specs.declared.verdict.Verdict.TheVariants.{Kept, Left}
+use Rattle.drum_machine.specs.declared.verdict.Verdict.TheVariants.{Kept, Left}
 use Rattle.drum_replay.specs.declared.following.Following.{Following}
 use Rattle.drum_replay.specs.Following.{CanBegin, AreGiven, AreOfRun, IsFollowed, IsFollowing, state_of}
 use Rattle.drum_replay.specs.Following.{waits_of, stride_of, used_so_far}

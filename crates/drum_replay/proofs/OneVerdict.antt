@@ -16,8 +16,8 @@ use Rattle.drum_machine.specs.Step.{State, Stepped, on, stopped}
 use Rattle.drum_machine.proofs.Returning.{along_joined, back_split, edges_more}
 use Rattle.drum_emulator.specs.Fed.{op_in, waits_with}
 use Rattle.drum_flow.specs.Walk.{Setting}
-use Rattle.drum_lines.specs.declared.verdict.Verdict.{Verdict}
-use Rattle.drum_lines.specs.declared.verdict.Verdict.TheVariants.{Kept, Left}
+use Rattle.drum_machine.specs.declared.verdict.Verdict.{Verdict}
+use Rattle.drum_machine.specs.declared.verdict.Verdict.TheVariants.{Kept, Left}
 use Rattle.drum_replay.specs.Replay.{Given, AreFed, IsReplayed, StopsAt, LeavesAt, IsLeft, IsVerdict}
 use Rattle.drum_replay.proofs.OneRun.{one_first, one_stride}
 

@@ -18,11 +18,11 @@ use Rattle.drum_machine.specs.Step.{step_with}
 use Rattle.drum_machine.specs.declared.why.Why.TheVariants as why
 use Rattle.drum_machine.specs.Effect.{Outcome, effect, goes, stops}
 use Rattle.drum_machine.specs.Timing.{ended, ready, units_of}
+use Rattle.drum_machine.specs.declared.verdict.Verdict.{Verdict}
 use Rattle.drum_emulator.specs.Fed.{op_in, waits_with}
 use Rattle.drum_flow.specs.Walk.{Setting}
 use Rattle.drum_lines.specs.declared.status.Status.{Status}
 use Rattle.drum_lines.specs.declared.status.Status.TheVariants.{Failed}
-use Rattle.drum_lines.specs.declared.verdict.Verdict.{Verdict}
 use Rattle.drum_lines.specs.Output.{Device, GetsAll, GetsResult}
 use Rattle.drum_hop_lines.specs.TraceText.{stride_line, stride_lines}
 use Rattle.drum_replay.specs.declared.replaying.Begun.{Begun}

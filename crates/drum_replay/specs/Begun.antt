@@ -6,8 +6,8 @@ use Rattle.drum_machine.specs.Keeps.{IsAsDeclared}
 use Rattle.drum_flow.specs.Walk.{Setting}
 use Rattle.drum_flow.specs.Bounded.{IsBounded}
 use Rattle.drum_walks.specs.Worst.{IsWorst}
-use Rattle.drum_lines.specs.declared.verdict.Verdict.{Verdict}
-use Rattle.drum_lines.specs.declared.verdict.Verdict.TheVariants.{Left}
+use Rattle.drum_machine.specs.declared.verdict.Verdict.{Verdict}
+use Rattle.drum_machine.specs.declared.verdict.Verdict.TheVariants.{Left}
 use Rattle.drum_documents.specs.declared.documents.Documents.{Documents}
 use Rattle.drum_documents.specs.Limits.{IsLimit}
 use Rattle.drum_documents.specs.Documents.{setting_of}

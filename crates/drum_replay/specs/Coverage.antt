@@ -14,8 +14,8 @@ use Rattle.drum_machine.specs.Counts.{no_counts}
 use Rattle.drum_machine.specs.Keeps.{counts_after, counts_over}
 use Rattle.drum_machine.specs.Run.{Stride}
 use Rattle.drum_machine.specs.Step.{instruction_in}
-use Rattle.drum_lines.specs.declared.verdict.Verdict.{Verdict}
-use Rattle.drum_lines.specs.declared.verdict.Verdict.TheVariants.{Left}
+use Rattle.drum_machine.specs.declared.verdict.Verdict.{Verdict}
+use Rattle.drum_machine.specs.declared.verdict.Verdict.TheVariants.{Left}
 use Rattle.drum_lines.specs.NameText.{name_text}
 
 -- ---- how often marks are passed

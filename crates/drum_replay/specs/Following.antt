@@ -12,7 +12,7 @@ use Rattle.drum_emulator.specs.Machine.{GoesOn, state_in, used_by}
 use Rattle.drum_monitor.specs.Monitor.{HasSeenKept, answer_of}
 use Rattle.drum_flow.specs.Accepted.{IsFixed}
 use Rattle.drum_flow.specs.Walk.{Setting}
-use Rattle.drum_lines.specs.declared.verdict.Verdict.{Verdict}
+use Rattle.drum_machine.specs.declared.verdict.Verdict.{Verdict}
 use Rattle.drum_replay.specs.declared.following.Following.{Following}
 use Rattle.drum_replay.specs.Replay.{Given, IsReplayed, IsUnderWay, IsVerdict, used_in}
 

@@ -23,8 +23,8 @@ use Rattle.drum_acceptance.specs.Acceptance.{IsRefusal}
 use Rattle.drum_walks.specs.Worst.{IsWorst}
 use Rattle.drum_lines.specs.declared.fault.Fault as fails
 use Rattle.drum_lines.specs.declared.fault.Fault.TheVariants as fault
-use Rattle.drum_lines.specs.declared.verdict.Verdict.{Verdict}
-use Rattle.drum_lines.specs.declared.verdict.Verdict.TheVariants.{Kept, Left}
+use Rattle.drum_machine.specs.declared.verdict.Verdict.{Verdict}
+use Rattle.drum_machine.specs.declared.verdict.Verdict.TheVariants.{Kept, Left}
 use Rattle.drum_lines.specs.declared.limit.Limit.{Limit}
 use Rattle.drum_documents.specs.declared.documents.Documents.{Documents}
 use Rattle.drum_documents.specs.Limits.{IsLimit, IsLimitRefusal}

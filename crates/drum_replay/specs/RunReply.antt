@@ -1,10 +1,10 @@
 -- What the program has to say of a run.
 use Rattle.std.specs.Prelude.{◌≡◌, ℕ, List, ◌++◌, ◌⊎◌}
 use Rattle.drum_machine.specs.Run.{Stride}
+use Rattle.drum_machine.specs.declared.verdict.Verdict.{Verdict}
 use Rattle.drum_flow.specs.Walk.{Setting}
 use Rattle.drum_lines.specs.declared.limit.Limit as limits
 use Rattle.drum_lines.specs.declared.limit.Limit.TheVariants as limit
-use Rattle.drum_lines.specs.declared.verdict.Verdict.{Verdict}
 use Rattle.drum_lines.specs.Reply.{Reply, breaks_off, says}
 use Rattle.drum_lines.specs.Status.{status_of}
 use Rattle.drum_lines.specs.VerdictText.{verdict_text}

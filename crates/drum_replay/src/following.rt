@@ -15,7 +15,7 @@ ghost use Rattle.drum_replay.specs.Following.{stride_of, used_so_far, state_of, 
 
 use drum_deck::Deck;
 use drum_emulator::{Feed, Machine, Step};
-use drum_lines::Verdict;
+use drum_machine::Verdict;
 use drum_monitor::Monitor;
 use drum_times::{Notes, Times};
 

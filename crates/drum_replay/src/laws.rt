@@ -5,7 +5,7 @@ ghost use Rattle.drum_times.specs.declared.notes.pattern.Pattern.{Pattern};
 ghost use Rattle.drum_times.specs.Allowed.{Matches, Notes};
 ghost use Rattle.drum_machine.specs.Run.{Stride};
 ghost use Rattle.drum_flow.specs.Walk.{Setting};
-ghost use Rattle.drum_lines.specs.declared.verdict.Verdict.{Verdict};
+ghost use Rattle.drum_machine.specs.declared.verdict.Verdict.{Verdict};
 ghost use Rattle.drum_machine.specs.Step.{instruction_in};
 ghost use Rattle.drum_replay.specs.Coverage.{count_after_first, meets, most_passed};
 ghost use Rattle.drum_replay.specs.Replay.{Given, IsReplayed, IsVerdict};

@@ -20,7 +20,8 @@ use drum_deck::Deck;
 use drum_devices::Output;
 use drum_documents::Documents;
 use drum_inputs::Inputs;
-use drum_lines::{Fault, Status, Verdict, tell_text};
+use drum_lines::{Fault, Status, tell_text};
+use drum_machine::Verdict;
 use drum_picture::{Run, picture_of_run};
 use drum_times::{Notes, Times};
 use std::alloc::{AllocError, Global};
@@ -145,7 +146,7 @@ pub fn tell_picture<O: Output>(out: &mut O, pictured: &Pictured) -> Status
         (status_of pictured.now.verdict) result }
 {
     match tell_text(out, pictured.picture.as_bytes()) {
-        Status::Done => pictured.verdict.status(),
+        Status::Done => Status::after(&pictured.verdict),
         status => status,
     }
 }

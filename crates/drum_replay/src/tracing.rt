@@ -29,8 +29,8 @@ use drum_deck::Deck;
 use drum_devices::Output;
 use drum_documents::Documents;
 use drum_hop_lines::{Page, pass_step};
-use drum_lines::{Limit, Status, Verdict, WriteFault, send, tell_verdict};
-use drum_machine::Left;
+use drum_lines::{Limit, Status, WriteFault, send, tell_verdict};
+use drum_machine::{Left, Verdict};
 use drum_times::{Notes, Times};
 
 /// Follows a run and writes a line for each of its steps, many at a time, up to the one with which

@@ -5,7 +5,7 @@ ghost use Rattle.drum_rounds.specs.Change as said;
 ghost use Rattle.drum_rounds.specs.declared.change.Change.TheVariants as Change;
 
 /// What hops, one after the other, do to the count of a mark.
-#[derive(Clone, Copy, Debug)]
+#[derive(Clone, Copy)]
 pub enum Change {
     /// It rises by so much, a pass each time.
     Rise(u32),

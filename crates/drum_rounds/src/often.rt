@@ -11,7 +11,7 @@ use drum_walks::{Piece, Rounds};
 use std::alloc::{AllocError, Global};
 
 /// How often each piece comes. This is worked out from the last one down, which comes once.
-#[derive(Debug, Drop)]
+#[derive(Drop)]
 pub struct Often {
     /// How often each comes, by those that were gone through.
     pub often: Vec<u128>,

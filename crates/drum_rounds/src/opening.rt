@@ -10,7 +10,7 @@ use drum_core::Location;
 
 /// What hops, one after the other, ask of what is open at the exit of a call when they begin, and
 /// how they leave it.
-#[derive(Clone, Copy, Debug)]
+#[derive(Clone, Copy)]
 pub enum Opening {
     /// Nothing is asked, and it stays as it is.
     Kept,

@@ -8,7 +8,7 @@ use drum_walks::Piece;
 use std::alloc::{AllocError, Global};
 
 /// Pieces, and for each how many a walk has come to the end of where it first begins this one.
-#[derive(Debug, Drop)]
+#[derive(Drop)]
 pub struct Order<'a> {
     pieces: &'a [Piece],
     firsts: Vec<usize>,

@@ -21,7 +21,7 @@ const MOST_NAMED: usize = 1 << 32;
 const MOST_HOPS: u128 = 1 << 127;
 
 /// How long each piece takes, and how often each comes.
-#[derive(Debug, Drop)]
+#[derive(Drop)]
 pub struct PieceTotals {
     pub lasting: Vec<u128>,
     pub often: Vec<u128>,

@@ -7,7 +7,7 @@ use crate::opening::Opening;
 use drum_core::{Location, REVOLUTION};
 
 /// What hops, one after the other, come to.
-#[derive(Debug, Drop)]
+#[derive(Drop)]
 pub struct Stretch {
     /// The location of the first hop.
     pub from: Location,

@@ -10,7 +10,7 @@ use indexmap::IndexMap;
 use std::alloc::{AllocError, Global};
 
 /// A walk that begins at an angle.
-#[derive(Clone, Copy, Debug, PartialEq, Eq, Hash)]
+#[derive(Clone, Copy, PartialEq, Eq, Hash)]
 struct Begun {
     walk: usize,
     /// The drum's angle when the search for its first location begins.
@@ -18,7 +18,7 @@ struct Begun {
 }
 
 /// The walks that have pieces.
-#[derive(Debug, Drop)]
+#[derive(Drop)]
 pub struct Building<'a> {
     alloc: Global,
     sources: &'a Sources,

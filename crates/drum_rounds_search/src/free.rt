@@ -4,7 +4,7 @@ use drum_rows::SiteRow;
 use std::alloc::{AllocError, Global};
 
 /// A step along an edge.
-#[derive(Clone, Copy, Debug)]
+#[derive(Clone, Copy)]
 pub struct Step {
     /// Where it begins.
     pub from: usize,
@@ -13,7 +13,7 @@ pub struct Step {
 }
 
 /// A way to a site.
-#[derive(Clone, Copy, Debug)]
+#[derive(Clone, Copy)]
 pub struct Way {
     /// The word times that it takes.
     pub time: u64,
@@ -22,7 +22,7 @@ pub struct Way {
 }
 
 /// A last hop.
-#[derive(Clone, Copy, Debug)]
+#[derive(Clone, Copy)]
 pub struct Last {
     /// The word times until it ends, and 49 more.
     pub time: u64,
@@ -31,7 +31,7 @@ pub struct Last {
 }
 
 /// The longest ways free of marks from a site to each; none, where no way leads.
-#[derive(Debug, Drop)]
+#[derive(Drop)]
 pub struct Free {
     entries: Vec<Option<Way>>,
     /// The last hop that ends last; none, where all ways pass marks.

@@ -11,7 +11,7 @@ use indexmap::IndexMap;
 use std::alloc::{AllocError, Global};
 
 /// A piece that is there.
-#[derive(Clone, Copy, Debug)]
+#[derive(Clone, Copy)]
 pub struct Laid {
     /// Its number.
     pub piece: usize,
@@ -20,7 +20,7 @@ pub struct Laid {
 }
 
 /// A step whose hop begins at an angle.
-#[derive(Clone, Copy, Debug, PartialEq, Eq, Hash)]
+#[derive(Clone, Copy, PartialEq, Eq, Hash)]
 struct Begun {
     /// The number of the site.
     site: usize,
@@ -30,7 +30,7 @@ struct Begun {
 }
 
 /// The pieces so far.
-#[derive(Debug, Drop)]
+#[derive(Drop)]
 pub struct Laying<'a> {
     alloc: Global,
     times: &'a Times,

@@ -10,7 +10,7 @@ use drum_times::Mark;
 use std::alloc::{AllocError, Global};
 
 /// The loops of the marks, as long as the mark around hasn't taken them.
-#[derive(Debug, Drop)]
+#[derive(Drop)]
 pub struct Loops<'a> {
     pub(super) alloc: Global,
     pub(super) marks: &'a [Mark],

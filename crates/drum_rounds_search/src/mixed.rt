@@ -8,14 +8,14 @@ use std::alloc::AllocError;
 
 /// A loop as it stands among those of other marks: its table, and its mark's place in the order of
 /// the flow.
-#[derive(Debug, Drop)]
+#[derive(Drop)]
 pub struct Standing {
     pub place: usize,
     pub table: Table,
 }
 
 /// The parts of the loop of a mark, between which what isn't inside of it may stand.
-#[derive(Debug, Drop)]
+#[derive(Drop)]
 pub struct Parts {
     /// The loops that are inside of it.
     pub inner: Vec<Standing>,

@@ -4,7 +4,7 @@ use drum_walks::{Piece, Rounds};
 use std::alloc::{AllocError, Global};
 
 /// A piece that a walk is inside of.
-#[derive(Clone, Copy, Debug)]
+#[derive(Clone, Copy)]
 struct Open {
     piece: usize,
     /// How many of those that it names were gone through.
@@ -12,7 +12,7 @@ struct Open {
 }
 
 /// Pieces while they are gone through as a walk does.
-#[derive(Debug, Drop)]
+#[derive(Drop)]
 struct Numbering<'a> {
     alloc: Global,
     old: &'a [Piece],

@@ -4,7 +4,7 @@ use drum_rows::SiteRow;
 use std::alloc::{AllocError, Global};
 
 /// An edge with a mark.
-#[derive(Clone, Copy, Debug)]
+#[derive(Clone, Copy)]
 pub struct Passing {
     /// Where it begins.
     pub from: usize,
@@ -21,7 +21,7 @@ pub struct Passing {
 }
 
 /// The edges with marks, in an order of where they begin.
-#[derive(Debug, Drop)]
+#[derive(Drop)]
 pub struct Passings {
     pub list: Vec<Passing>,
 }

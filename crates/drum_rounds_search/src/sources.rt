@@ -7,7 +7,7 @@ use drum_times::Mark;
 use std::alloc::{AllocError, Global};
 
 /// The sources, the start first, with the longest ways free of marks from each.
-#[derive(Debug, Drop)]
+#[derive(Drop)]
 pub struct Sources {
     pub list: Vec<usize>,
     pub free: Vec<Free>,

@@ -4,7 +4,7 @@ use crate::walks::Walks;
 use std::alloc::{AllocError, Global};
 
 /// A walk, with where it leads and the word times that it takes.
-#[derive(Clone, Copy, Debug)]
+#[derive(Clone, Copy)]
 pub struct Cell {
     /// The source that it leads to, or the column of the end.
     pub onto: usize,
@@ -14,7 +14,7 @@ pub struct Cell {
 }
 
 /// Two walks, one after the other, with the word times that they take.
-#[derive(Clone, Copy, Debug)]
+#[derive(Clone, Copy)]
 struct Joint {
     time: u128,
     first: usize,
@@ -23,7 +23,7 @@ struct Joint {
 
 /// The longest walks that were found from each source to each, and to an end of the whole, which is
 /// the last column. Rows hold what was found alone, since most have little.
-#[derive(Debug, Drop)]
+#[derive(Drop)]
 pub struct Table {
     rows: Vec<Vec<Cell>>,
 }

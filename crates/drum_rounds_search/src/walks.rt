@@ -4,7 +4,7 @@ use crate::free::Step;
 use std::alloc::{AllocError, Global};
 
 /// A walk, or a part of one. Others are named by their numbers, which are lower.
-#[derive(Clone, Copy, Debug)]
+#[derive(Clone, Copy)]
 pub enum Walk {
     /// No hop.
     None,
@@ -17,7 +17,7 @@ pub enum Walk {
 }
 
 /// Walks by their numbers. The first has no hop.
-#[derive(Debug, Drop)]
+#[derive(Drop)]
 pub struct Walks {
     list: Vec<Walk>,
 }

@@ -23,7 +23,7 @@ pub fn is_found_at(location: Location, angle: u64) -> bool
 }
 
 /// Where hops begin: at a location, from when its instruction is found.
-#[derive(Clone, Copy, Debug)]
+#[derive(Clone, Copy)]
 pub struct Found<'a> {
     pub notes: &'a Notes,
     pub times: &'a Times,

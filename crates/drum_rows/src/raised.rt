@@ -22,7 +22,7 @@ pub const BAND: usize = 50;
 pub const BANDS: usize = 44;
 
 /// What hops take at most that lead to one slot.
-#[derive(Clone, Copy, Debug)]
+#[derive(Clone, Copy)]
 pub struct Onward {
     /// The most word times until the next instruction is found.
     pub time: u32,
@@ -55,7 +55,7 @@ impl Onward {
 /// What the hops take at most that were looked at, of a location whose instruction is found at an
 /// angle. One serves for all locations, one after the other, and is emptied where it was written:
 /// a location has few hops, and there are many slots.
-#[derive(Debug, Drop)]
+#[derive(Drop)]
 pub struct Raised {
     /// The most word times until one of them without a mark ends, and 49 more; 0 of none.
     pub stop: u32,

@@ -9,7 +9,7 @@ const MOST_COLUMNS: usize = 24;
 const MOST_BRACES: usize = 240;
 
 /// Rounds of which one is drawn.
-#[derive(Clone, Copy, Debug, PartialEq, Eq)]
+#[derive(Clone, Copy)]
 pub struct Brace {
     /// How many rounds there are.
     pub times: u16,
@@ -22,14 +22,14 @@ pub struct Brace {
 }
 
 /// A brace with its column, from 0.
-#[derive(Clone, Copy, Debug)]
+#[derive(Clone, Copy)]
 pub struct InColumn {
     pub brace: Brace,
     pub column: usize,
 }
 
 /// The braces.
-#[derive(Debug, Drop)]
+#[derive(Drop)]
 pub struct Braces {
     all: Vec<InColumn>,
 }

@@ -5,7 +5,7 @@ use drum_walks::Visit;
 
 /// A hop that is drawn, with its moments. A moment counts word times from the beginning of the
 /// first revolution on.
-#[derive(Clone, Copy, Debug)]
+#[derive(Clone, Copy)]
 pub struct DrawnHop {
     /// The hop. When it was taken is told by what stands below alone.
     pub visit: Visit,

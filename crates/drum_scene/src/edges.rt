@@ -9,14 +9,14 @@ use std::collections::HashMap;
 pub const MOST_EDGES: usize = 600;
 
 /// From which word to which, by their locations' numbers.
-#[derive(Clone, Copy, Debug, PartialEq, Eq, PartialOrd, Ord, Hash)]
+#[derive(Clone, Copy, PartialEq, Eq, PartialOrd, Ord, Hash)]
 pub struct Edge {
     pub from: u16,
     pub onto: u16,
 }
 
 /// An edge that the walk takes.
-#[derive(Clone, Copy, Debug)]
+#[derive(Clone, Copy)]
 pub struct TakenEdge {
     pub edge: Edge,
     /// How often.
@@ -24,7 +24,7 @@ pub struct TakenEdge {
 }
 
 /// The edges that the walk takes.
-#[derive(Debug, Drop)]
+#[derive(Drop)]
 pub struct Edges {
     /// Those that it takes most, these first.
     pub drawn: Vec<TakenEdge>,
@@ -46,7 +46,7 @@ impl Edge {
 }
 
 /// How often each edge is taken, counted hop by hop.
-#[derive(Debug, Drop)]
+#[derive(Drop)]
 pub struct EdgeCounts {
     counts: HashMap<Edge, u64>,
 }

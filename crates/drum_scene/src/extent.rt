@@ -4,7 +4,7 @@ use crate::walk::Walk;
 use std::alloc::AllocError;
 
 /// How much of the walk is drawn.
-#[derive(Clone, Copy, Debug, PartialEq, Eq)]
+#[derive(Clone, Copy)]
 pub enum Extent {
     /// All of it.
     All,

@@ -1,5 +1,5 @@
 /// Which operations stand at a location.
-#[derive(Clone, Copy, Debug, PartialEq, Eq)]
+#[derive(Clone, Copy)]
 pub enum Operations {
     /// None is known.
     None,

@@ -11,7 +11,7 @@ const LATEST: u64 = 1 << 62;
 
 /// When the parts of a hop begin and end, as clocks: word times since a moment of angle 0. Where a
 /// hop isn't of the timing table, they need not ascend.
-#[derive(Clone, Copy, Debug)]
+#[derive(Clone, Copy)]
 pub struct Parts {
     /// Its instruction is looked for.
     pub begun: u64,

@@ -8,7 +8,7 @@ use std::alloc::{AllocError, Global};
 pub const PAGE_ROWS: usize = 24;
 
 /// What stands between a row and the row above it.
-#[derive(Clone, Copy, Debug, PartialEq, Eq)]
+#[derive(Clone, Copy)]
 pub enum Above {
     /// Nothing: time goes on.
     Nothing,
@@ -19,7 +19,7 @@ pub enum Above {
 }
 
 /// A revolution that is drawn, as a row.
-#[derive(Clone, Copy, Debug, PartialEq, Eq)]
+#[derive(Clone, Copy)]
 pub struct Row {
     /// Which one of the walk's, from 0.
     pub revolution: u128,
@@ -27,7 +27,7 @@ pub struct Row {
 }
 
 /// The revolutions that are drawn, one a row, and the hops that begin in them.
-#[derive(Debug, Drop)]
+#[derive(Drop)]
 pub struct Rows {
     /// The revolutions, in order; but for some that cards are waited for from their beginning to
     /// their end, and those that time jumps over.

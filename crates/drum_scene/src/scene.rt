@@ -9,7 +9,7 @@ use crate::tallies::Tallies;
 use crate::walk::Walk;
 
 /// What is shown of a walk, of whichever kind.
-#[derive(Debug, Drop)]
+#[derive(Drop)]
 pub struct Scene {
     pub walk: Walk,
     /// What the walk and the deck have to do with each location.

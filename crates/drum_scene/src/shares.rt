@@ -1,7 +1,7 @@
 use crate::parts::Parts;
 
 /// Where the word times of a walk go.
-#[derive(Clone, Copy, Debug, PartialEq, Eq)]
+#[derive(Clone, Copy)]
 pub struct Shares {
     /// Waiting for instructions.
     pub instructions: u128,

@@ -13,7 +13,7 @@ use std::alloc::{AllocError, Global};
 const LOCATIONS: usize = Location::DRUM as usize + 4;
 
 /// What a walk and a deck have to do with a location.
-#[derive(Clone, Copy, Debug, PartialEq, Eq)]
+#[derive(Clone, Copy)]
 pub struct Tally {
     /// Whether the deck gives it a word.
     pub loaded: bool,
@@ -47,7 +47,7 @@ impl Tally {
 }
 
 /// The tallies of all locations.
-#[derive(Debug, Drop)]
+#[derive(Drop)]
 pub struct Tallies {
     all: Vec<Tally>,
 }

@@ -1,7 +1,7 @@
 use std::fmt;
 
 /// A number of tenths, written with one decimal place.
-#[derive(Clone, Copy, Debug)]
+#[derive(Clone, Copy)]
 pub struct Tenths {
     pub count: u128,
 }

@@ -1,10 +1,10 @@
 //! Which walk is drawn, and how long it takes.
 
 use crate::tenths::Tenths;
-use drum_lines::Verdict;
+use drum_machine::Verdict;
 
 /// Which walk it is.
-#[derive(Clone, Copy, Debug, PartialEq, Eq)]
+#[derive(Clone, Copy)]
 pub enum Kind {
     /// The worst walk of an analysis, which takes as long as the bound.
     Worst,
@@ -15,7 +15,7 @@ pub enum Kind {
 }
 
 /// The walk that is drawn.
-#[derive(Clone, Copy, Debug, PartialEq, Eq)]
+#[derive(Clone, Copy)]
 pub struct Walk {
     pub kind: Kind,
     /// The drum's angle when it begins.

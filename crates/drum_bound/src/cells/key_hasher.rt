@@ -8,7 +8,7 @@ use std::hash::Hasher;
 /// in the order of the keys goes through its memory in order. Nine is as many as the map puts into
 /// a group on average: with fewer, the keys of a table that is nearly full would come to its first
 /// groups again, and overflow them.
-#[derive(Clone, Copy, Debug)]
+#[derive(Clone, Copy)]
 pub struct KeyHasher {
     /// The last number that was written.
     key: u64,

@@ -11,7 +11,7 @@ use drum_core::REVOLUTION;
 use std::sync::ledger::Ledger;
 
 /// The latest end of a hop from a key. [`End::of`] alone makes one, and counts it.
-#[derive(Debug, Drop)]
+#[derive(Drop)]
 pub struct End {
     clock: u64,
     origin: KeyHop,

@@ -8,7 +8,7 @@ use drum_core::numeral::read_digits;
 const WORDS: usize = 7;
 
 /// A card of a deck: words for consecutive locations.
-#[derive(Clone, Copy, Debug)]
+#[derive(Clone, Copy)]
 pub struct Card {
     /// Where the first word goes, four digits.
     pub address: u16,

@@ -6,7 +6,7 @@ use super::card::Card;
 use drum_core::numeral::read_digits;
 
 /// A line of a deck.
-#[derive(Clone, Copy, Debug)]
+#[derive(Clone, Copy)]
 pub enum Line {
     /// `*` and any bytes.
     Comment,

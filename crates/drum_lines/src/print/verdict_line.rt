@@ -5,16 +5,15 @@ ghost use Rattle.drum_core.specs.Word.{spelling};
 ghost use Rattle.drum_machine.specs.declared.left.Left.TheVariants.{Unlisted};
 ghost use Rattle.drum_core.specs.Numeral.{digits_of};
 ghost use Rattle.drum_lines.specs.Sent.{IsWritten, failed_writes};
-ghost use Rattle.drum_lines.specs.declared.verdict.Verdict.TheVariants.{Kept};
+ghost use Rattle.drum_machine.specs.declared.verdict.Verdict.TheVariants.{Kept};
 ghost use Rattle.drum_lines.specs.VerdictText.{left_text, limit_name, verdict_text, why_name};
 
 use super::{four_digits, write_line};
 use crate::failed_write::WriteFault;
 use crate::limit::Limit;
-use crate::verdict::Verdict;
 use drum_core::{Location, Word};
 use drum_devices::Output;
-use drum_machine::{Left, Why};
+use drum_machine::{Left, Verdict, Why};
 use itoa::Buffer;
 
 /// Writes the line of a verdict on a run, whose word times are limited in this way.

@@ -13,7 +13,7 @@ use drum_times::{KeyPath, NoteFault};
 use toml::Value;
 
 /// What is wrong with a value.
-#[derive(Clone, Copy, Debug, PartialEq, Eq)]
+#[derive(Clone, Copy, PartialEq, Eq)]
 pub enum ValueFault {
     /// It is of another kind.
     Kind,

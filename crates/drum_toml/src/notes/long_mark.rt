@@ -17,13 +17,13 @@ use drum_times::{Edge, Edges, Mark, Name, NoteFault};
 use std::alloc::{AllocError, Global};
 
 /// A mark as long notes have them.
-#[derive(Debug, Drop)]
+#[derive(Drop)]
 pub struct LongMark {
     pub mark: Mark,
 }
 
 /// The edges of a mark.
-#[derive(Debug, Drop)]
+#[derive(Drop)]
 struct MarkEdges {
     first: Edge,
     others: Edges,

@@ -11,7 +11,7 @@ use drum_core::{Op, Parity};
 use drum_times::{Entry, NoteFault};
 
 /// What an entry says beside `before`, `after` and `parity`.
-#[derive(Clone, Copy, Debug, PartialEq, Eq)]
+#[derive(Clone, Copy, PartialEq, Eq)]
 pub enum Form {
     /// Nothing.
     Plain,

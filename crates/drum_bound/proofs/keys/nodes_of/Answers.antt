@@ -5,11 +5,11 @@ use Rattle.std.specs.Prelude.{slice_get, Contains}
 use Rattle.std.proofs.lemmas.List.Elements.{Contains-push_cases}
 use Rattle.drum_deck.specs.InDeck.{loads_in}
 use Rattle.drum_order.proofs.Lists.{contains_from_get}
-use Rattle.drum_flow.proofs.Founds.{number_at, numbers_more}
 use Rattle.drum_flow.specs.declared.flow_graph.Flow.{Flow}
 use Rattle.drum_flow.specs.Flow.{deck_of, notes_of, executed_in}
 use Rattle.drum_flow.specs.Hops.{hops}
 use Rattle.drum_flow.specs.HopsLeft.{hops_left}
+use Rattle.drum_flow.proofs.Founds.{number_at, numbers_more}
 use Rattle.drum_acceptance.specs.AcceptedFlow.{in_order}
 use Rattle.drum_bound.specs.declared.keys.Node.{Node}
 use Rattle.drum_bound.specs.KeysOf.{HaveHops, numbers, nodes_in}

@@ -8,7 +8,7 @@ use Rattle.drum_deck.specs.InDeck.{loads_in, start_in}
 use Rattle.drum_times.specs.declared.notes.mark.Mark.{Mark}
 use Rattle.drum_times.specs.Allowed.{Notes, AreSound}
 use Rattle.drum_order.specs.Graph.{height, AreDifferent}
-use Rattle.drum_order.proofs.Lists.{contains_here, contains_there}
+use Rattle.drum_order.proofs.Lists.{contains_here, contains_there, one_place}
 use Rattle.drum_flow.specs.Accepted.{capped}
 use Rattle.drum_flow.specs.Executed.{same_node}
 use Rattle.drum_flow.specs.Flow.{deck_of, executed_in, nodes_of, notes_of}
@@ -19,7 +19,7 @@ use Rattle.drum_flow.proofs.Orders.{reached_different, stays_there}
 use Rattle.drum_flow.proofs.Proper.{is_proper}
 use Rattle.drum_acceptance.specs.AcceptedFlow.{indices_in_order, nodes_in_order}
 use Rattle.drum_acceptance.specs.Free.{those_at}
-use Rattle.drum_acceptance.proofs.FreeRows.{one_place, some_at}
+use Rattle.drum_acceptance.proofs.FreeRows.{some_at}
 use Rattle.drum_acceptance.proofs.Heights.{height_here, height_of_here, height_of_there, height_there}
 use Rattle.drum_acceptance.proofs.Translations.{those_first, those_long}
 use Rattle.drum_rows.specs.Steps.{TakesAtMost}

@@ -13,10 +13,10 @@ use Rattle.drum_times.specs.declared.notes.pattern.Pattern.{Pattern}
 use Rattle.drum_times.specs.Allowed.{Listed}
 use Rattle.drum_machine.specs.Counts.{AreWithin, no_counts}
 use Rattle.drum_machine.specs.Run.{Stride}
+use Rattle.drum_machine.specs.declared.verdict.Verdict.{Verdict}
 use Rattle.drum_emulator.specs.Feed.{cards_left}
 use Rattle.drum_monitor.proofs.Watching.{kept_within, zeros_within}
 use Rattle.drum_flow.specs.SettingOf.{setting}
-use Rattle.drum_lines.specs.declared.verdict.Verdict.{Verdict}
 use Rattle.drum_lines.specs.Sent.{IsSent}
 use Rattle.drum_lines.proofs.Sending.{IsSent-then, written_cut, written_whole}
 use Rattle.drum_hop_lines.specs.Page.{text_of}

@@ -4,11 +4,10 @@ use Rattle.std.specs.Prelude.{slice_get, Contains}
 use Rattle.std.proofs.lemmas.Option.{same_Some}
 use Rattle.drum_times.specs.Allowed.{Notes}
 use Rattle.drum_order.specs.Graph.{AreDifferent}
-use Rattle.drum_order.proofs.Lists.{contains_cases, contains_from_get, contains_here, contains_none}
+use Rattle.drum_order.proofs.Lists.{contains_cases, contains_from_get, contains_here, contains_none, one_place}
 use Rattle.drum_flow.specs.Executed.{onward}
 use Rattle.drum_flow.specs.Flow.{nodes_of, notes_of}
 use Rattle.drum_flow.specs.Hops.{Node}
-use Rattle.drum_acceptance.proofs.FreeRows.{one_place}
 use Rattle.drum_rows.specs.declared.sites.Site.{Site}
 use Rattle.drum_rows.specs.Sites.{sites_in}
 use Rattle.drum_rows.specs.Slot.{place_of}

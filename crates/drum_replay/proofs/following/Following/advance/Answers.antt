@@ -9,7 +9,7 @@ use Rattle.drum_emulator.specs.Feed.{cards_left}
 use Rattle.drum_emulator.specs.Machine.{IsToldOf}
 use Rattle.drum_monitor.specs.Monitor.{HasSeenKept}
 use Rattle.drum_flow.specs.SettingOf.{setting}
-use Rattle.drum_lines.specs.declared.verdict.Verdict.TheVariants.{Left}
+use Rattle.drum_machine.specs.declared.verdict.Verdict.TheVariants.{Left}
 use Rattle.drum_replay.specs.Following.{IsFollowed, state_of, stride_of}
 use Rattle.drum_replay.proofs.Followed.{goes_on, held_after, leaves_here, replayed, stops_here, told}
 use Rattle.drum_replay.proofs.following.Following.advance.Goals as goal

@@ -1,8 +1,5 @@
-ghost use Rattle.std.specs.Prelude.{◌≡◌};
-ghost use Rattle.drum_lines.specs.Status.{status_of};
-
-use crate::status::Status;
-use drum_machine::{Left, Why};
+use crate::left::Left;
+use crate::why::Why;
 
 /// What a replay found of its run.
 #[derive(Clone, Copy, Debug, PartialEq, Eq)]
@@ -27,16 +24,4 @@ pub enum Verdict {
         /// The word times used before this step.
         used: u64,
     },
-}
-
-impl Verdict {
-    /// The status with which the program ends with this verdict.
-    pub fn status(&self) -> Status
-        ensures { result ≡ status_of self.now }
-    {
-        match self {
-            Verdict::Kept { .. } => Status::Done,
-            Verdict::Left { .. } => Status::Left,
-        }
-    }
 }

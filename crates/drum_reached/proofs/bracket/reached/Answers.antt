@@ -4,7 +4,7 @@ use Rattle.drum_deck.specs.InDeck.{loads_in, start_in}
 use Rattle.drum_flow.specs.Flow.{deck_of, executed_in, notes_of, AreFound}
 use Rattle.drum_flow.proofs.Orders.{order_found}
 use Rattle.drum_acceptance.proofs.Acceptances.{moved}
-use Rattle.drum_ceiling.proofs.bracket.reached.Goals as goal
+use Rattle.drum_reached.proofs.bracket.reached.Goals as goal
 
 pub walk_along-requires-clause-found : goal.walk_along-requires-clause-found
 walk_along-requires-clause-found c =

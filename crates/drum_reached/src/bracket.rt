@@ -5,11 +5,10 @@ ghost use Rattle.drum_flow.specs.Executed.{AreAllNodes};
 ghost use Rattle.drum_flow.specs.Flow.{executed_in, nodes_of, of_flow, AreFound};
 ghost use Rattle.drum_rounds.specs.InRounds.{IsInRoundsOf};
 ghost use Rattle.drum_ceiling.specs.CeilingOf.{IsCeilingRefusal};
-ghost use Rattle.drum_ceiling.specs.BracketOf.{IsBracketOf};
+ghost use Rattle.drum_reached.specs.BracketOf.{IsBracketOf};
 
-use crate::answer::Ceiling;
-use crate::finding::ceiling;
 use drum_acceptance::AcceptedFlow;
+use drum_ceiling::{Ceiling, ceiling};
 use drum_core::REVOLUTION;
 use drum_deck::Deck;
 use drum_flow::Refusal;

@@ -1,5 +1,5 @@
 use Rattle.std.proofs.Common.{ℕ, ◌≤◌, subst}
-use Rattle.drum_ceiling.proofs.laws.walk_is_not_above_the_ceiling.Goals as goal
+use Rattle.drum_reached.proofs.laws.walk_is_not_above_the_ceiling.Goals as goal
 
 pub returns : goal.returns
 returns c g prices total angle pieces passes reached is spells =

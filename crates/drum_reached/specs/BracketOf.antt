@@ -4,7 +4,7 @@ use Rattle.drum_times.specs.declared.times.Times.{Times}
 use Rattle.drum_times.specs.Allowed.{Notes}
 use Rattle.drum_rounds.specs.InRounds.{IsInRoundsOf}
 use Rattle.drum_ceiling.specs.CeilingOf.{IsCeilingOf}
-use Rattle.drum_ceiling.specs.declared.bracket.Bracket.{Bracket}
+use Rattle.drum_reached.specs.declared.bracket.Bracket.{Bracket}
 
 -- The one is a ceiling of the deck, the other a walk of it.
 pub record IsBracketOf (deck : Deck) (times : Times) (notes : Notes) (bracket : Bracket) : Type 0

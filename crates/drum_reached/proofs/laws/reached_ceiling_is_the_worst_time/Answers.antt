@@ -1,4 +1,4 @@
-use Rattle.drum_ceiling.proofs.laws.reached_ceiling_is_the_worst_time.Goals as goal
+use Rattle.drum_reached.proofs.laws.reached_ceiling_is_the_worst_time.Goals as goal
 
 pub returns : goal.returns
 returns c g prices total angle pieces passes is spells = record {
