@@ -3,19 +3,19 @@ use Rattle.std.specs.Prelude.{◌≡◌, ◌≢◌, ◌≤◌, ◌^◌, [], leng
 use Rattle.drum_deck.specs.InDeck.{loads_in, start_in}
 use Rattle.drum_deck.specs.declared.deck.fault.DeckFault.TheVariants as of_deck
 use Rattle.drum_times.specs.declared.fault.NoteFault.TheVariants as of_note
+use Rattle.drum_toml.specs.declared.notes.notes_read.NotesRead.TheVariants.{Long}
+use Rattle.drum_command.specs.declared.command.Files.{Files}
 use Rattle.drum_lines.specs.declared.fault.Fault.{Fault}
 use Rattle.drum_lines.specs.declared.fault.Fault.TheVariants as fault
+use Rattle.drum_lacking.specs.Lacking.{are_long, words_altered}
+use Rattle.drum_lacking.specs.LackingOf.{words_in}
 use Rattle.drum_check.specs.Findings.{AreFindings}
 use Rattle.drum_check.specs.FindingsOf.{found_in, is_long_in}
-use Rattle.drum_check.specs.Lacking.{are_long, words_altered}
-use Rattle.drum_check.specs.LackingOf.{words_in}
-use Rattle.drum_command.specs.declared.command.Files.{Files}
 use Rattle.drum_faults.specs.FaultLines.{Named}
-use Rattle.drum_answers.specs.declared.checking.Checked.{Checked}
-use Rattle.drum_answers.specs.declared.checking.Checked.TheVariants.{Faulty, Sound}
 use Rattle.drum_documents.specs.declared.documents.Documents.{Documents}
 use Rattle.drum_documents.specs.Documents.{Texts, Say}
-use Rattle.drum_toml.specs.declared.notes.notes_read.NotesRead.TheVariants.{Long}
+use Rattle.drum_answers.specs.declared.checking.Checked.{Checked}
+use Rattle.drum_answers.specs.declared.checking.Checked.TheVariants.{Faulty, Sound}
 use Rattle.drum_answers.specs.Says.{AreLinesOfFaults}
 
 -- The lines of the texts' faults, if they have any; else what is found of the documents that they

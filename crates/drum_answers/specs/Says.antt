@@ -22,8 +22,8 @@ use Rattle.drum_lines.specs.declared.status.Status.TheVariants.{Done, Refused}
 use Rattle.drum_lines.specs.FaultStatus.{IsOutOfMemory}
 use Rattle.drum_lines.specs.Reply.{Reply, bound_reply, lists, says}
 use Rattle.drum_finding.specs.Finding.{Finding, may_be_meant}
+use Rattle.drum_lacking.specs.Lacking.{are_long, check_text}
 use Rattle.drum_check.specs.Findings.{AreFindings}
-use Rattle.drum_check.specs.Lacking.{are_long, check_text}
 use Rattle.drum_graph.specs.Graph.{AreNodes, Node}
 use Rattle.drum_graph.specs.GraphText.{graph_text}
 use Rattle.drum_graph.specs.Outline.{outlined}

@@ -2,26 +2,27 @@
 
 ghost use Rattle.std.specs.Prelude.{◌≡◌, [], IfOk, IfErr, ◌≤◌, ◌^◌, length, option_map};
 ghost use Rattle.drum_deck.specs.InDeck.{loads_in, start_in};
+ghost use Rattle.drum_toml.specs.declared.notes.notes_read.NotesRead.TheVariants.{Long};
+ghost use Rattle.drum_lines.specs.FaultStatus.{IsOutOfMemory};
+ghost use Rattle.drum_lacking.specs.Lacking.{are_long, words_altered};
+ghost use Rattle.drum_lacking.specs.LackingOf.{words_in};
 ghost use Rattle.drum_check.specs.Findings.{AreFindings};
 ghost use Rattle.drum_check.specs.FindingsOf.{found_in, is_long_in};
-ghost use Rattle.drum_check.specs.Lacking.{are_long, words_altered};
-ghost use Rattle.drum_check.specs.LackingOf.{words_in};
 ghost use Rattle.drum_faults.specs.NamedTexts.{named};
 ghost use Rattle.drum_documents.specs.Documents.{Say};
-ghost use Rattle.drum_toml.specs.declared.notes.notes_read.NotesRead.TheVariants.{Long};
-ghost use Rattle.drum_answers.specs.Checked.{AreLacking, IsChecked, IsMemoryOfText, IsShort};
 ghost use Rattle.drum_documents.specs.TextsOf.{inputs_in, texts_in};
 ghost use Rattle.drum_documents.specs.Asked.{name_in};
-ghost use Rattle.drum_answers.specs.Says.{AreLinesOfFaults, RefusesCheck};
 ghost use Rattle.drum_documents.specs.Limits.{IsDiscoveryFault};
-ghost use Rattle.drum_lines.specs.FaultStatus.{IsOutOfMemory};
+ghost use Rattle.drum_answers.specs.Checked.{AreLacking, IsChecked, IsMemoryOfText, IsShort};
+ghost use Rattle.drum_answers.specs.Says.{AreLinesOfFaults, RefusesCheck};
 
-use drum_check::{Findings, Lacking};
+use drum_check::Findings;
 use drum_command::Files;
 use drum_deck::laws::not_refused;
 use drum_documents::{Documents, Texts};
 use drum_faults::laws::sound_where_none;
 use drum_faults::{NamedText, fault_lines};
+use drum_lacking::Lacking;
 use drum_lines::Fault;
 use drum_toml::NotesRead;
 use drum_toml::laws::{says_long_notes, says_times};
@@ -88,7 +89,7 @@ fn findings_of(alloc: Global, documents: &Documents) -> Result<(Findings, Lackin
     ensures refused { IfErr result (IsDiscoveryFault documents.now) }
 {
     let findings = Findings::of(alloc, &documents.deck, &documents.notes)?;
-    let lacking = Lacking::of(alloc, &findings)?;
+    let lacking = findings.lacking(alloc)?;
     Ok((findings, lacking))
 }
 

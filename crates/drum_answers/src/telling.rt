@@ -4,9 +4,9 @@ ghost use Rattle.std.specs.Prelude.{◌≡◌, ◌^◌, ◌≤◌};
 ghost use Rattle.drum_times.specs.Entries.{entry_in};
 ghost use Rattle.drum_bound.specs.AnalysisOf.{angle_of, bound_of, visits_of};
 ghost use Rattle.drum_lines.specs.Output.{GetsResult, device};
+ghost use Rattle.drum_lacking.specs.Lacking.{check_text, words_altered};
+ghost use Rattle.drum_lacking.specs.LackingOf.{words_in};
 ghost use Rattle.drum_check.specs.FindingsOf.{found_in, is_long_in};
-ghost use Rattle.drum_check.specs.Lacking.{check_text, words_altered};
-ghost use Rattle.drum_check.specs.LackingOf.{words_in};
 ghost use Rattle.drum_graph.specs.GraphOf.{loops_in, nodes_in, start_of};
 ghost use Rattle.drum_graph.specs.GraphText.{graph_text};
 ghost use Rattle.drum_report.specs.Report.{report_text};
@@ -24,10 +24,11 @@ ghost use Rattle.drum_answers.specs.Says.{status_after_check};
 
 use drum_bound::Analysis;
 use drum_bracket::{Outline, WaitsInRounds, list_rounds, list_rounds_waits, report_ceiling};
-use drum_check::{Findings, Lacking, list_findings};
+use drum_check::Findings;
 use drum_devices::Output;
 use drum_documents::Documents;
 use drum_graph::{Graph, send_graph};
+use drum_lacking::Lacking;
 use drum_lines::{Status, ended};
 use drum_listing::{Table, Waits, list_table, list_waits, list_walk};
 use drum_reached::Bracket;
@@ -177,5 +178,5 @@ pub fn tell_findings<O: Output>(out: &mut O, findings: &Findings, lacking: &Lack
         (check_text (is_long_in findings.now) (found_in findings.now))
         (status_after_check (found_in findings.now)) result }
 {
-    ended(list_findings(findings, lacking, out), status_of(findings))
+    ended(findings.list(lacking, out), status_of(findings))
 }

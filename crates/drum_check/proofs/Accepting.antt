@@ -14,10 +14,10 @@ use Rattle.drum_acceptance.proofs.Acceptances.{one_order, one_reached}
 use Rattle.drum_loops.specs.Loops.{IsFreeBut}
 use Rattle.drum_finding.specs.Finding.{Finding}
 use Rattle.drum_finding.specs.FoundAt.{altering, too_many, unfit}
+use Rattle.drum_finding.proofs.Nothing.{all_nothing}
 use Rattle.drum_check.specs.Findings.{AreFindings}
 use Rattle.drum_check.specs.Findings.{AreLooseEnds}
 use Rattle.drum_check.proofs.Fits.{good_fit, unaltering}
-use Rattle.drum_check.proofs.Nothing.{all_nothing}
 use Rattle.drum_check.proofs.Sizes.{long_untold, small_untold}
 use Rattle.drum_check.proofs.Tellings.{none_told}
 

@@ -7,8 +7,8 @@ use Rattle.std.proofs.lemmas.Grind.{flat_map-append}
 use Rattle.drum_order.proofs.Lists.{contains_cases, contains_here, contains_none, contains_there}
 use Rattle.drum_flow.specs.Executed.{with_new}
 use Rattle.drum_flow.proofs.Orders.{with_new_keeps}
+use Rattle.drum_finding.proofs.Nothing.{all_nothing}
 use Rattle.drum_check.specs.First.{BeginsWith}
-use Rattle.drum_check.proofs.Nothing.{all_nothing}
 
 -- a list with others behind it, and one behind nothing
 pub begins_left : {X : Type 0} (xs ys : List X) (x : X) → BeginsWith xs x → BeginsWith (xs ++ ys) x

@@ -36,12 +36,12 @@ use Rattle.drum_finding.specs.declared.within.Within.{Within}
 use Rattle.drum_finding.specs.UnchangedParts.{kept_of}
 use Rattle.drum_finding.proofs.Fixeds.{fixed_only, fixed_so}
 use Rattle.drum_finding.proofs.Outsides.{inside_none, outside_of}
+use Rattle.drum_finding.proofs.Nothing.{all_nothing}
 use Rattle.drum_check.specs.Findings.{AreFindings}
 use Rattle.drum_check.specs.First.{BeginsWith, IsFoundFirst}
 use Rattle.drum_check.specs.Insides.{AreLoops}
 use Rattle.drum_check.proofs.Begins.{begins_behind, begins_flat, begins_left, begins_lowest, begins_mapped, begins_new}
 use Rattle.drum_check.proofs.Fits.{absent_told, alters_none, good_fit, there_untold, unaltering}
-use Rattle.drum_check.proofs.Nothing.{all_nothing}
 use Rattle.drum_check.proofs.Silent.{round_left}
 use Rattle.drum_check.proofs.Sizes.{large_told, long_untold, short_plain, small_untold}
 use Rattle.drum_check.proofs.Tellings.{first_told}

@@ -15,7 +15,7 @@ use Rattle.drum_finding.specs.FoundAt.{altered_by, altering, is_fixed, not_there
 use Rattle.drum_finding.specs.UnchangedParts.{kept_of}
 use Rattle.drum_finding.proofs.Fixeds.{fixed_only}
 use Rattle.drum_finding.proofs.Outsides.{outside_of}
-use Rattle.drum_check.proofs.Nothing.{all_nothing, none_passes}
+use Rattle.drum_finding.proofs.Nothing.{all_nothing, none_passes}
 
 pub there_untold : (loads : ℕ → Option Word) (notes : Notes) (place : ℕ) → IsThere loads notes place
     → not_there loads notes place ≡ []

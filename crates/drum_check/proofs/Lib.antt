@@ -3,17 +3,13 @@ pub mod Begins
 pub mod Firsts
 pub mod Fits
 pub mod Heads
-pub mod Lacks
 pub mod Marked
-pub mod Nothing
 pub mod Numbered
 pub mod Ones
-pub mod Pasted
 pub mod Rearranged
 pub mod Silent
 pub mod Sizes
 pub mod Tellings
 pub mod Unsaids
 pub mod Ways
-pub mod Words
 pub mod WriteRanges

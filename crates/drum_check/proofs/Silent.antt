@@ -24,9 +24,9 @@ use Rattle.drum_finding.specs.UnchangedParts.{kept_of}
 use Rattle.drum_finding.specs.FoundAt.{outside, too_many, unfit, unused, unused_calls}
 use Rattle.drum_finding.proofs.Fixeds.{fixed_so}
 use Rattle.drum_finding.proofs.Outsides.{outside_of}
+use Rattle.drum_finding.proofs.Nothing.{before_nothing, both_nothing, each_nothing, in_filter, in_flat_map, none_added, of_nothing}
 use Rattle.drum_check.specs.Findings.{AreFindings}
 use Rattle.drum_check.specs.Findings.{inside_at, AreLooseEnds, IsUnsaid, pairs_of}
-use Rattle.drum_check.proofs.Nothing.{before_nothing, both_nothing, each_nothing, in_filter, in_flat_map, none_added, of_nothing}
 use Rattle.drum_check.proofs.Sizes.{short_plain, told_small}
 use Rattle.drum_check.proofs.Tellings.{told_none}
 use Rattle.drum_check.proofs.Unsaids.{those_one}

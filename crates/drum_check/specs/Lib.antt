@@ -1,9 +1,6 @@
 pub mod Findings
 pub mod FindingsOf
-pub mod FindingsText
 pub mod First
 pub mod Insides
 pub mod KnownInside
-pub mod Lacking
-pub mod LackingOf
 pub mod Those

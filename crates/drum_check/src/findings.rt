@@ -1,18 +1,20 @@
 ghost use Rattle.std.specs.Prelude.{◌≤◌, vec_len};
 
-use crate::lengths::are_long;
 use crate::loops::unmarked_loops;
 use crate::unsaid::unsaid_marks;
 use drum_acceptance::counts::product_of;
 use drum_acceptance::fixed::Fixed;
 use drum_core::Location;
 use drum_deck::Deck;
+use drum_devices::Output;
 use drum_finding::{
     Finding, UnchangedParts, altered_at, has_edge, idle_words, is_executed, operations_outside,
     unused_calls,
 };
 use drum_flow::place::{is_listed, is_there};
 use drum_flow::{Flow, Refusal, discover};
+use drum_lacking::{Lacking, are_long, list_all};
+use drum_lines::WriteFault;
 use drum_times::{Edge, Mark, Notes};
 use std::alloc::{AllocError, Global};
 
@@ -33,7 +35,7 @@ pub struct Findings {
 }
 
 impl Findings {
-    ghost use Rattle.std.specs.Prelude.{◌≡◌, ◌++◌, [], ◌∷◌, ◌↔◌, ℕ, ◌-◌, ◌<◌, map, flat_map};
+    ghost use Rattle.std.specs.Prelude.{◌≡◌, ◌++◌, [], ◌∷◌, ◌↔◌, ℕ, ◌+◌, ◌-◌, ◌^◌, ◌<◌, map, flat_map};
     ghost use Rattle.std.specs.Prelude.{IsTrue, IfErr, IfOk, OnOk};
     ghost use Rattle.std.specs.List.{list_all, range_with_len};
     ghost use Rattle.drum_core.specs.Location.{IsLocation};
@@ -43,6 +45,7 @@ impl Findings {
     ghost use Rattle.drum_flow.specs.Executed.{AreAllNodes};
     ghost use Rattle.drum_flow.specs.Flow.{executed_in, nodes_of, of_flow, AreFound};
     ghost use Rattle.drum_flow.specs.Refused.{IsDiscoveryRefusal};
+    ghost use Rattle.drum_lines.specs.Sent.{IsWritten, failed_writes};
     ghost use Rattle.drum_finding.specs.FoundAt.{not_there, unfit, altering, too_many};
     ghost use Rattle.drum_finding.specs.Finding.{may_be_meant};
     ghost use Rattle.drum_finding.specs.FoundAt.{astray, missing, unused};
@@ -50,9 +53,10 @@ impl Findings {
     ghost use Rattle.drum_finding.specs.Finding.{not_in_profile, alters};
     ghost use Rattle.drum_finding.specs.FindingOf.{AreFixed, seen};
     ghost use Rattle.drum_finding.specs.UnchangedParts.{kept_of};
+    ghost use Rattle.drum_lacking.specs.Lacking.{are_long as said_long, check_text, words_altered};
+    ghost use Rattle.drum_lacking.specs.LackingOf.{words_in};
     ghost use Rattle.drum_check.specs.Findings.{AreFindings};
     ghost use Rattle.drum_check.specs.FindingsOf.{found_in, is_long_in};
-    ghost use Rattle.drum_check.specs.Lacking as lacking;
 
     /// None yet.
     fn none(alloc: Global) -> Findings
@@ -331,7 +335,7 @@ impl Findings {
         ensures found { IfOk result (λ findings. AreFindings (loads_in deck.now) notes.now
             (start_in deck.now) (found_in findings)) }
         ensures long { IfOk result (λ findings. is_long_in findings
-            ≡ lacking.are_long notes.now (found_in findings)) }
+            ≡ said_long notes.now (found_in findings)) }
         ensures refused { IfErr result (IsDiscoveryRefusal (loads_in deck.now) notes.now
             (start_in deck.now)) }
     {
@@ -352,6 +356,37 @@ impl Findings {
         findings.add_all(&unsaid)?;
         findings.long = are_long(notes, &findings.all);
         Ok(findings)
+    }
+
+    /// The words that lack a list, by what was found.
+    ///
+    /// # Errors
+    ///
+    /// [`AllocError`] where there is no memory.
+    pub fn lacking(&self, alloc: Global) -> Result<Lacking, AllocError>
+        ensures { IfOk result (λ lacking. words_in lacking ≡ words_altered (found_in self.now)) }
+    {
+        Lacking::of(alloc, &self.all)
+    }
+
+    /// Writes what was found, a line each, and then the notes that are lacking, as TOML: a mark for
+    /// each edge that closes a loop, or for several that share it, with the number of the mark
+    /// inside which it stands, behind a line that says so where these make long notes; and a list
+    /// for each word that is altered. What is lacking has to be that of what was found. It takes no
+    /// memory.
+    ///
+    /// # Errors
+    ///
+    /// Where a write fails or takes no byte: then a prefix of the text has gone out, of as many
+    /// bytes as the fault says.
+    pub fn list<O: Output>(&self, lacking: &Lacking, writer: &mut O) -> Result<(), WriteFault>
+        requires called { O.called writer.old ≤ 2 ^ 62 }
+        requires right { words_in lacking.now ≡ words_altered (found_in self.now) }
+        ensures written { IsWritten (O.written writer.old) (O.written writer.new) result
+            (check_text (is_long_in self.now) (found_in self.now)) }
+        ensures failures { O.failed writer.new ≡ O.failed writer.old + failed_writes result }
+    {
+        list_all(&self.all, self.long, lacking, writer)
     }
 
     /// Whether nothing was found at all.

@@ -8,17 +8,14 @@
 //! of them that of an edge or of a mark stands, and `several` whether different marks stand on ways
 //! back of one of these loops. `sharing` finds which edges share a mark. `loops` finds the loops
 //! that lack a mark, and puts them in order, with the mark inside which one on each is to stand;
-//! `unsaid` finds the marks that don't say inside which other they stand. `lengths` tells whether
-//! the notes are long once the marks that are lacking stand in them. `findings` gathers what is
-//! found. `listing` writes a line for each. `lacking` are the words that lack a list. `marking` and
-//! `pasting` write the notes that are lacking behind the lines, the first its marks. `laws` has
+//! `unsaid` finds the marks that don't say inside which other they stand. `findings` gathers what
+//! is found, and has its lines and the notes that are lacking written by `drum_lacking`. `laws` has
 //! laws of the definitions.
 //!
 //! Definitions, in the order to read them: `Findings` is all that is found, and `First` what is
 //! found first of a deck that is refused. `Insides` is in which order loops are told, which of
 //! their edges share a mark, and inside which mark each is to stand; `Those` are those of a list
-//! that have a property. `FindingsText` is the lines. `Lacking` are the notes that are lacking.
-//! `FindingsOf`, `KnownInside` and `LackingOf` say what the code's types mean by these.
+//! that have a property. `FindingsOf` and `KnownInside` say what the code's types mean by these.
 //!
 //! Proofs. `Silent` and `Accepting` show where nothing is in the way of a bound, and `Firsts` what
 //! is found first. `Unsaids` is on pairs of marks. Of the loops `Numbered` counts and finds the
@@ -28,19 +25,12 @@
 #![tactic(auto)]
 
 mod findings;
-mod lacking;
 pub mod laws;
-mod lengths;
-mod listing;
 mod loops;
-mod marking;
 mod nested;
 mod nesting;
-mod pasting;
 mod several;
 mod sharing;
 mod unsaid;
 
 pub use findings::Findings;
-pub use lacking::Lacking;
-pub use pasting::list_findings;

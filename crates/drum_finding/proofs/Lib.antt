@@ -3,6 +3,7 @@ pub mod Among
 pub mod Fixeds
 pub mod NamedFlags
 pub mod Namings
+pub mod Nothing
 pub mod Outsides
 pub mod Steps
 pub mod Whole

@@ -112,7 +112,7 @@ impl<'a> Call<'a> {
 /// All that keeps a deck from a bound, and what is lacking.
 fn findings(alloc: Global, of: &Documents) -> Result<(Findings, Lacking), Refusal> {
     let findings = Findings::of(alloc, &of.deck, &of.notes)?;
-    let lacking = Lacking::of(alloc, &findings)?;
+    let lacking = findings.lacking(alloc)?;
     Ok((findings, lacking))
 }
 

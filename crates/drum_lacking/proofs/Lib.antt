@@ -1,0 +1,3 @@
+pub mod Lacks
+pub mod Pasted
+pub mod Words

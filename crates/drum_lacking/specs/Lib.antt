@@ -1,0 +1,3 @@
+pub mod FindingsText
+pub mod Lacking
+pub mod LackingOf
