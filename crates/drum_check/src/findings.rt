@@ -28,15 +28,15 @@ const PRODUCT_LIMIT: u128 = 4_000_000;
 /// All that keeps a deck from having a bound under its notes, and the loose ends of both.
 #[derive(Debug, Drop)]
 pub struct Findings {
-    pub(crate) all: Vec<Finding>,
+    all: Vec<Finding>,
     /// Whether marks are lacking, and the notes are long once they have them.
-    pub(crate) long: bool,
+    long: bool,
     ghost few: { vec_len all ≤ 16777216 },
 }
 
 impl Findings {
-    ghost use Rattle.std.specs.Prelude.{◌≡◌, ◌++◌, [], ◌∷◌, ◌↔◌, ℕ, ◌+◌, ◌-◌, ◌^◌, ◌<◌, map, flat_map};
-    ghost use Rattle.std.specs.Prelude.{IsTrue, IfErr, IfOk, OnOk};
+    ghost use Rattle.std.specs.Prelude.{◌≡◌, ◌++◌, [], ◌∷◌, ◌↔◌, ℕ, ◌+◌, ◌-◌, ◌^◌, ◌<◌};
+    ghost use Rattle.std.specs.Prelude.{map, flat_map, IsTrue, IfErr, IfOk, OnOk};
     ghost use Rattle.std.specs.List.{list_all, range_with_len};
     ghost use Rattle.drum_core.specs.Location.{IsLocation};
     ghost use Rattle.drum_deck.specs.InDeck.{loads_in, start_in};

@@ -18,10 +18,12 @@
 //! that have a property. `FindingsOf` and `KnownInside` say what the code's types mean by these.
 //!
 //! Proofs. `Silent` and `Accepting` show where nothing is in the way of a bound, and `Firsts` what
-//! is found first. `Unsaids` is on pairs of marks. Of the loops `Numbered` counts and finds the
-//! last one round another, `Ones` finds one of many, `Ways` where those round it go back to,
-//! `Heads` where edges share a mark, `Marked` the edges of a mark, `Rearranged` takes edges in
-//! another order, and `Tellings` tells them one after the other.
+//! is found first. These stand on `Begins` (lists that begin with something), `Fits` (locations of
+//! which nothing is found), `Sizes` (when a size is too large) and `WriteRanges` (the words that an
+//! instruction writes follow one another). `Unsaids` is on pairs of marks. Of the loops `Numbered`
+//! counts and finds the last one round another, `Ones` finds one of many, `Ways` where those round
+//! it go back to, `Heads` where edges share a mark, `Marked` the edges of a mark, `Rearranged`
+//! takes edges in another order, and `Tellings` tells them one after the other.
 #![tactic(auto)]
 
 mod findings;

@@ -164,7 +164,8 @@ fn told_apart(
     edges: &[Edge],
 ) -> Result<Vec<Finding>, AllocError>
     requires known { AreKnown nesting.now }
-    requires marked { map edge_of marked.now ≡ of_marks.marked_edges nesting.now.flow.now.notes.now }
+    requires marked { map edge_of marked.now
+        ≡ of_marks.marked_edges nesting.now.flow.now.notes.now }
     ensures { IfOk result (λ loops. AreToldApart (IsInsideIn nesting.now.flow.now)
         nesting.now.flow.now.notes.now (map edge_of edges.now) (map seen loops.items)) }
 {

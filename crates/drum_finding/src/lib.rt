@@ -18,8 +18,8 @@
 //!
 //! Proofs. `Steps` is on edges that are there, `Among` on locations among the executed ones,
 //! `Outsides` on operations, `Fixeds` on words that are altered, `Namings` and `NamedFlags` on
-//! words that are named. `Adding` and `Whole` put lists of findings together; `drum_check` uses
-//! these too.
+//! words that are named. `Adding` and `Whole` put lists of findings together, and `Nothing` is on
+//! lists in which nothing is; `drum_check` uses these too.
 #![tactic(auto)]
 
 mod altered;

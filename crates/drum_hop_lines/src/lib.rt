@@ -17,8 +17,8 @@
 //! Definitions, in the order to read them: `Moments`, `MomentsText`, `WalkText`, `HeldText` (what a
 //! machine holds after a step), `TraceText`, `Waits`, `WaitsText`. The others say what the code
 //! means by these. `StepOf` says which stride a step is of, and `Page` what a page holds and what
-//! has gone out behind it. `Pieces` are parts of lines, as the code writes them. `TimedHop` is a hop
-//! that is told, and `KindsOf` are kinds of hops and what they take and wait.
+//! has gone out behind it. `Pieces` are parts of lines, as the code writes them. `TimedHop` is a
+//! hop that is told, and `KindsOf` are kinds of hops and what they take and wait.
 //!
 //! Proofs. `Lines` puts lines together of their pieces, `Gathers` has lines that go out many at a
 //! time, and `Strides` what a step's answer tells of its stride. `Checks` and `WaitChecks` evaluate
