@@ -5,5 +5,4 @@ pub mod FreeRows
 pub mod Heights
 pub mod Plain
 pub mod Products
-mod Refusals
 pub mod Translations

@@ -6,7 +6,7 @@
 //! (with `fixed`; fault 34), `size` (with `counts`; fault 36) and `free_order` (with `free`, the
 //! graph of the edges free of marks; fault 35); or, where the notes may have calls and the size may
 //! be any, through these without the size. `acceptance` has `accept`, which hands out the flow
-//! alone. `laws` has laws of the definitions.
+//! alone.
 //!
 //! Definitions: `Acceptance` (which refusal is given; `drum_flow` has when a deck is accepted). The
 //! others say what the code means by these: `Altering`, `Fixed`, `Size`, `Free` and `AcceptedFlow`.
@@ -15,7 +15,7 @@
 //! of nodes where notes have no calls; `Products`, of products as they are counted; `FreeRows`, of
 //! the edges free of marks; `Heights`, of orders in which every edge goes on; `Alterations`, of
 //! words that are altered; `Translations`, of indices and their nodes. `Flags` is on words that are
-//! fixed, and `Refusals` shows that an accepted deck isn't refused.
+//! fixed.
 #![tactic(auto)]
 
 mod acceptance;
@@ -25,7 +25,6 @@ pub mod counts;
 pub mod fixed;
 pub mod free;
 mod free_order;
-pub mod laws;
 mod size;
 
 pub use acceptance::accept;

@@ -1,6 +1,5 @@
 pub mod Analyses
 pub mod Begun
-mod Checks
 mod CountLoops
 pub mod DigitsLaws
 pub mod Entering

@@ -11,8 +11,7 @@
 //! there, and raises it. `cells/entries` is the map that is the table, and `cells/key_hasher` its
 //! hasher. `scan` takes each key in turn, and each of its hops. Of a finished scan `trace` makes
 //! the walk, followed back, with its passes, as visits of `drum_walks`. `analysing` has `analyse`,
-//! and `analysis` what that hands out. `bounding` has `bound`, which makes no walk. `laws` has laws
-//! of the definitions.
+//! and `analysis` what that hands out. `bounding` has `bound`, which makes no walk.
 //!
 //! Definitions, in the order to read them, behind `Worst` of `drum_walks`, which is what the bound
 //! is: `Table` is what the table is, with its entries and the one start angle, `Ends` the ends that
@@ -31,8 +30,7 @@
 //! walks (`Walked`, `Unpassed`), the bound (`Worsts`), the table (`Rows`, `RowSums`, and `RowsHeld`
 //! as it is handed out) with its ends (`EntryEnds`, `EntriesRaised`) and what arrives under it
 //! (`Unders`), the number of a walk's hops (`ShortWalks`), and the walk that is handed out
-//! (`Traces`). `Checks` evaluates the counts of three marks. docs/THEOREM.md says what they add up
-//! to.
+//! (`Traces`). docs/THEOREM.md says what they add up to.
 #![tactic(auto)]
 
 mod analysing;
@@ -43,7 +41,6 @@ mod instruction_search;
 mod key_hop;
 mod keys;
 mod latest;
-pub mod laws;
 mod leap;
 mod numbers;
 mod recent;

@@ -1,4 +1,3 @@
-mod Checks
 pub mod EndLaws
 pub mod FirstComings
 pub mod FirstVisits
@@ -6,7 +5,6 @@ pub mod KindSums
 pub mod Laid
 pub mod LineCounts
 pub mod LineSums
-pub mod LinesTold
 pub mod Lists
 pub mod Passing
 pub mod PriceText

@@ -8,7 +8,7 @@ use Rattle.drum_times.specs.declared.notes.mark.Mark.{Mark}
 use Rattle.drum_times.specs.Allowed.{Notes}
 use Rattle.drum_rounds.specs.InRounds as walks
 use Rattle.drum_ceiling.specs.CeilingOf.{prices_of, total_of}
-use Rattle.drum_reached.specs.declared.bracket.Bracket.{Bracket}
+use Rattle.drum_ceiling.specs.declared.bracket.Bracket.{Bracket}
 use Rattle.drum_lines.specs.NameText.{name_text}
 
 -- the line of a mark with this price and so many passes, with its name at the end where it has one

@@ -9,4 +9,3 @@ pub mod RoundsWaits
 pub mod RoundsWaitsOf
 pub mod SpelledOut
 pub mod TellerOf
-pub mod TellsOf

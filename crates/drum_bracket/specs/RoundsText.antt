@@ -14,7 +14,7 @@ use Rattle.drum_walks.specs.declared.piece.Piece.TheVariants as piece
 use Rattle.drum_walks.specs.Pieces.{named, seen_placed, spelled_of, PlacedHop}
 use Rattle.drum_rounds.specs.InRounds as walks
 use Rattle.drum_rounds.specs.InRounds.{takes}
-use Rattle.drum_reached.specs.declared.bracket.Bracket.{Bracket}
+use Rattle.drum_ceiling.specs.declared.bracket.Bracket.{Bracket}
 use Rattle.drum_hop_lines.specs.Moments.{later, moments_of}
 use Rattle.drum_hop_lines.specs.MomentsText.{moments_text}
 use Rattle.drum_hop_lines.specs.WalkText.{hop_text}

@@ -4,7 +4,7 @@ use Rattle.drum_core.specs.declared.op.Op.{Op}
 use Rattle.drum_times.specs.declared.entry.Entry.{Entry}
 use Rattle.drum_walks.specs.Visited.{Visited}
 use Rattle.drum_rounds.specs.InRounds as walks
-use Rattle.drum_reached.specs.declared.bracket.Bracket.{Bracket}
+use Rattle.drum_ceiling.specs.declared.bracket.Bracket.{Bracket}
 use Rattle.drum_hop_lines.specs.WaitsText.{wait_line, walk_line}
 use Rattle.drum_bracket.specs.CeilingText.{bracket_lines}
 

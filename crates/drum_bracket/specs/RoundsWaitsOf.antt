@@ -15,7 +15,7 @@ use Rattle.drum_walks.specs.Pieces.{seen_placed, PlacedHop}
 use Rattle.drum_rounds.specs.declared.in_rounds.InRounds.{InRounds}
 use Rattle.drum_rounds.specs.InRounds as walks
 use Rattle.drum_rounds.specs.InRounds.{summed, takes}
-use Rattle.drum_reached.specs.declared.bracket.Bracket.{Bracket}
+use Rattle.drum_ceiling.specs.declared.bracket.Bracket.{Bracket}
 use Rattle.drum_hop_lines.specs.declared.kind.Kind.{Kind}
 use Rattle.drum_hop_lines.specs.declared.sums.Sums.{Sums}
 use Rattle.drum_hop_lines.specs.declared.waited.Waited.{Waited}

@@ -9,31 +9,29 @@
 //! tells its pieces, by the numbers of those that they name. `rounds` has `list_rounds`. `waits`
 //! has where the word times of a walk go: `waits/adding` goes over its pieces and adds up, by kind,
 //! what their hops take (`waits/kind_row`, of one hop `waits/alone`), and what all of them wait;
-//! `waits/listing` writes the lines. `laws` has laws of the definitions.
+//! `waits/listing` writes the lines.
 //!
 //! Definitions, in the order to read them: `CeilingText` is the text of a ceiling, mark by mark,
-//! and `RoundsText` that of its walk. `SpelledOut` is that walk hop by hop, `TellsOf` when what a
-//! line tells is so of it, and `RoundsWaits` the text of where its word times go. The others say
-//! what the code means by these: `PartLine` (the lines that are no hop's), `ProgressOf` (how far a
-//! walk is told, and what has gone out), `EndsOf`, `CountsOf`, `OutlineOf`, `TellerOf`,
-//! `RoundsWaitsOf` (the waits, as they are reckoned).
+//! and `RoundsText` that of its walk. `SpelledOut` is that walk hop by hop, and `RoundsWaits` the
+//! text of where its word times go. The others say what the code means by these: `PartLine` (the
+//! lines that are no hop's), `ProgressOf` (how far a walk is told, and what has gone out),
+//! `EndsOf`, `CountsOf`, `OutlineOf`, `TellerOf`, `RoundsWaitsOf` (the waits, as they are
+//! reckoned).
 //!
 //! Proofs. `PriceText` is a mark's line, and `RoundsLines` are a walk's, of their pieces. `Lists`
 //! has what stands where in a list, and `EndLaws` where hops begin. `Passing` has lines that are
 //! told one after the other, and what room they take; `Tellings` how pieces are told, and how long
 //! they take; `Totals` that the whole takes the walk's time; `LineCounts`, by `LineSums`, how many
 //! lines there are at most; `Starts` a walk from its beginning. `Laid` puts a walk's hops beside
-//! those of its pieces, and `LinesTold` goes through the lines for the law. Of the waits:
-//! `RowSteps` (the rows of kinds, with a piece more), `RowRoom` (no sum is too large), `KindSums`
-//! (what is added up over a walk's hops is added up over pieces), `PieceAt` (the piece that a loop
-//! is at), `FirstComings` and `FirstVisits` (what comes first), and by these `RoundsWaitsFound`;
-//! `WholeWaits` (what all hops wait). `Checks` evaluates the definitions.
+//! those of its pieces. Of the waits: `RowSteps` (the rows of kinds, with a piece more), `RowRoom`
+//! (no sum is too large), `KindSums` (what is added up over a walk's hops is added up over pieces),
+//! `PieceAt` (the piece that a loop is at), `FirstComings` and `FirstVisits` (what comes first),
+//! and by these `RoundsWaitsFound`; `WholeWaits` (what all hops wait).
 #![tactic(auto)]
 
 mod counts;
 mod ends;
 mod hop_line;
-pub mod laws;
 mod outline;
 mod part_line;
 mod prices;

@@ -9,9 +9,9 @@ ghost use Rattle.drum_lines.specs.Sent.{IsSent, IsWritten, failed_writes};
 ghost use Rattle.drum_bracket.specs.CeilingText.{ceiling_text, price_line, price_line_at};
 ghost use Rattle.drum_bracket.specs.CeilingText.{total_lines};
 
+use drum_ceiling::Bracket;
 use drum_devices::Output;
 use drum_lines::{WriteFault, four_digits, name_pieces, send};
-use drum_reached::Bracket;
 use drum_times::{Mark, Notes};
 use itoa::Buffer;
 

@@ -11,10 +11,10 @@ use crate::outline::Outline;
 use crate::prices::send_totals;
 use crate::progress::Progress;
 use crate::teller::Teller;
+use drum_ceiling::Bracket;
 use drum_devices::Output;
 use drum_hop_lines::Page;
 use drum_lines::{WriteFault, send};
-use drum_reached::Bracket;
 use drum_rounds::InRounds;
 use drum_times::Times;
 

@@ -1,5 +1,6 @@
 pub mod Affine
 pub mod AtSite
+pub mod BracketOf
 pub mod CeilingOf
 pub mod Certificate
 pub mod Charge

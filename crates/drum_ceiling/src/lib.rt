@@ -1,6 +1,7 @@
 //! A number of word times that no run which keeps to the notes ever exceeds, whatever the marks'
-//! counts are, and a price for each time round a mark's loop. It stands on the flow graph and its
-//! rows, and not on the analysis.
+//! counts are, and a price for each time round a mark's loop; and a walk in rounds beside it, so
+//! that the worst time is no more than the one, and no less than the other takes. It stands on the
+//! flow graph and its rows, and not on the analysis.
 //!
 //! Code, from the bottom up. The rows of `drum_rows` say what the hops from each site take at most,
 //! and where they lead; `longest` is the longest step of all. `drum_ceiling_search` finds prices of
@@ -8,14 +9,16 @@
 //! looks whether they pay for every hop, where `step` tells what the marks charge for it, by each
 //! `region`. `size` has what neither total nor price is above, by the passes `in_rounds` of the
 //! marks, and `prices` such prices as are surely high enough. `finding` takes the lower ones, and
-//! `answer` is what is handed out. `laws` has laws of the definitions.
+//! `answer` is what is handed out. `bracket` has a ceiling with its walk, whose pieces
+//! `drum_rounds_search` looks for and `drum_rounds` checks.
 //!
 //! Definitions, in the order to read them: `Certificate` (what is owed for a node, an angle and
 //! counts, so that it pays for every hop), `Affine` (the form of it that is looked for), `Rounds`
 //! (what a time round a mark's loop takes), `Size` (what no ceiling is above), `Right` (when a
-//! ceiling is right), `CeilingOf` (the same of what is handed out, and why there is none). The
-//! others say what the code's types mean by these: `AtSite` (levels and regions at the numbers of
-//! sites), `Charge`, `Paying`, `InRounds` and `Sized`.
+//! ceiling is right), `CeilingOf` (the same of what is handed out, and why there is none),
+//! `BracketOf` (when a ceiling with a walk is right). The others say what the code's types mean by
+//! these: `AtSite` (levels and regions at the numbers of sites), `Charge`, `Paying`, `InRounds` and
+//! `Sized`.
 //!
 //! Proofs. `Bounded` goes along a walk with what is owed, and `Rounded` round a mark's loop, where
 //! `RoundLeft` has what goes off what is left. `Left` shows that a hop is paid for whatever the
@@ -27,10 +30,10 @@
 #![tactic(auto)]
 
 mod answer;
+mod bracket;
 mod certificate;
 mod finding;
 mod in_rounds;
-pub mod laws;
 mod longest;
 mod prices;
 mod region;
@@ -38,4 +41,5 @@ mod size;
 mod step;
 
 pub use answer::Ceiling;
+pub use bracket::{Bracket, reached};
 pub use finding::ceiling;

@@ -1,15 +1,8 @@
-pub mod Accepting
-pub mod Begins
-pub mod Firsts
-pub mod Fits
 pub mod Heads
 pub mod Marked
 pub mod Numbered
 pub mod Ones
 pub mod Rearranged
-pub mod Silent
-pub mod Sizes
 pub mod Tellings
 pub mod Unsaids
 pub mod Ways
-pub mod WriteRanges

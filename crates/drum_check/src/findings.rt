@@ -1,19 +1,18 @@
 ghost use Rattle.std.specs.Prelude.{◌≤◌, vec_len};
 
-use crate::loops::unmarked_loops;
-use crate::unsaid::unsaid_marks;
+mod gathering;
+
 use drum_acceptance::counts::product_of;
 use drum_acceptance::fixed::Fixed;
 use drum_core::Location;
 use drum_deck::Deck;
 use drum_devices::Output;
 use drum_finding::{
-    Finding, UnchangedParts, altered_at, has_edge, idle_words, is_executed, operations_outside,
-    unused_calls,
+    Finding, Lacking, UnchangedParts, altered_at, has_edge, is_executed, list_all,
+    operations_outside,
 };
+use drum_flow::Flow;
 use drum_flow::place::{is_listed, is_there};
-use drum_flow::{Flow, Refusal, discover};
-use drum_lacking::{Lacking, are_long, list_all};
 use drum_lines::WriteFault;
 use drum_times::{Edge, Mark, Notes};
 use std::alloc::{AllocError, Global};
@@ -36,15 +35,14 @@ pub struct Findings {
 
 impl Findings {
     ghost use Rattle.std.specs.Prelude.{◌≡◌, ◌++◌, [], ◌∷◌, ◌↔◌, ℕ, ◌+◌, ◌-◌, ◌^◌, ◌<◌};
-    ghost use Rattle.std.specs.Prelude.{map, flat_map, IsTrue, IfErr, IfOk, OnOk};
+    ghost use Rattle.std.specs.Prelude.{map, flat_map, IsTrue, IfOk, OnOk};
     ghost use Rattle.std.specs.List.{list_all, range_with_len};
     ghost use Rattle.drum_core.specs.Location.{IsLocation};
-    ghost use Rattle.drum_deck.specs.InDeck.{loads_in, start_in};
+    ghost use Rattle.drum_deck.specs.InDeck.{loads_in};
     ghost use Rattle.drum_times.specs.EdgeOf.{edge_of};
     ghost use Rattle.drum_flow.specs.Accepted as said;
     ghost use Rattle.drum_flow.specs.Executed.{AreAllNodes};
-    ghost use Rattle.drum_flow.specs.Flow.{executed_in, nodes_of, of_flow, AreFound};
-    ghost use Rattle.drum_flow.specs.Refused.{IsDiscoveryRefusal};
+    ghost use Rattle.drum_flow.specs.Flow.{executed_in, nodes_of, of_flow};
     ghost use Rattle.drum_lines.specs.Sent.{IsWritten, failed_writes};
     ghost use Rattle.drum_finding.specs.FoundAt.{not_there, unfit, altering, too_many};
     ghost use Rattle.drum_finding.specs.Finding.{may_be_meant};
@@ -53,9 +51,8 @@ impl Findings {
     ghost use Rattle.drum_finding.specs.Finding.{not_in_profile, alters};
     ghost use Rattle.drum_finding.specs.FindingOf.{AreFixed, seen};
     ghost use Rattle.drum_finding.specs.UnchangedParts.{kept_of};
-    ghost use Rattle.drum_lacking.specs.Lacking.{are_long as said_long, check_text, words_altered};
-    ghost use Rattle.drum_lacking.specs.LackingOf.{words_in};
-    ghost use Rattle.drum_check.specs.Findings.{AreFindings};
+    ghost use Rattle.drum_finding.specs.Lacking.{check_text, words_altered};
+    ghost use Rattle.drum_finding.specs.LackingOf.{words_in};
     ghost use Rattle.drum_check.specs.FindingsOf.{found_in, is_long_in};
 
     /// None yet.
@@ -316,46 +313,6 @@ impl Findings {
         self.add_all_astray(alloc, flow)?;
         self.add_all_unused_lists(flow, 0, Location::DRUM)?;
         self.add_all_unused_lists(flow, 8000, 8004)
-    }
-
-    /// All that keeps the deck from having a bound under these notes, and the loose ends of both:
-    /// first what is wrong with each executed location by itself, in the order of discovery,
-    /// then what the instructions of each alter, then the size, where the notes are short, and then
-    /// the edges that close loops, those first whose loop stands inside the fewest others (in any
-    /// order, where they and the marks' edges are more than 64); and last the loose ends: the
-    /// marks' edges, the lists and the calls that are unused, each edge and each call in order and
-    /// each list by its location, the words that nothing comes to, by their locations, and the
-    /// marks that don't say inside which other one they stand.
-    ///
-    /// # Errors
-    ///
-    /// [`Refusal::TooMany`] where the flow graph has more than 65,536 nodes; [`Refusal::Memory`]
-    /// where there is no memory.
-    pub fn of(alloc: Global, deck: &Deck, notes: &Notes) -> Result<Findings, Refusal>
-        ensures found { IfOk result (λ findings. AreFindings (loads_in deck.now) notes.now
-            (start_in deck.now) (found_in findings)) }
-        ensures long { IfOk result (λ findings. is_long_in findings
-            ≡ said_long notes.now (found_in findings)) }
-        ensures refused { IfErr result (IsDiscoveryRefusal (loads_in deck.now) notes.now
-            (start_in deck.now)) }
-    {
-        let flow = discover(alloc, deck, notes)?;
-        let fixed = Fixed::of(alloc, flow.executed(), notes)?;
-        let loops = unmarked_loops(alloc, &flow)?;
-        let calls = unused_calls(alloc, &flow)?;
-        let idle = idle_words(alloc, &flow)?;
-        let unsaid = unsaid_marks(alloc, &flow)?;
-        let mut findings = Findings::none(alloc);
-        findings.add_all_unfit(alloc, &flow)?;
-        findings.add_all_altering(alloc, &flow, &fixed)?;
-        findings.add_size(&flow)?;
-        findings.add_all(&loops)?;
-        findings.add_unused(alloc, &flow)?;
-        findings.add_all(&calls)?;
-        findings.add_all(&idle)?;
-        findings.add_all(&unsaid)?;
-        findings.long = are_long(notes, &findings.all);
-        Ok(findings)
     }
 
     /// The words that lack a list, by what was found.

@@ -1,4 +1,3 @@
-mod Checks
 pub mod Numerals
 pub mod OpLaws
 pub mod Same

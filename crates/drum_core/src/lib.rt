@@ -8,7 +8,7 @@
 //! `Instruction`; `Op`, with `Amount`, `Branch`, `Position`, `Shift` and `Store` of its families.
 //!
 //! Proofs. These have laws that other crates use: `OpLaws`; `Numerals`, of numbers that are read;
-//! `Same` (values that agree are one). `Checks` evaluates definitions.
+//! `Same` (values that agree are one).
 #![tactic(auto)]
 
 mod instruction;

@@ -2,8 +2,8 @@
 //!
 //! Code. `spaced` reads words with a space before each. `deck` is what a deck answers. Its folder
 //! goes from the text up: `deck/lines`, `deck/card`, `deck/line`, `deck/loading` (a deck of which
-//! some lines are read), `deck/read`; `deck/fault` is why a text is no deck. `laws` has laws of the
-//! definitions.
+//! some lines are read), `deck/read`; `deck/fault` is why a text is no deck. `laws` has one law of
+//! the definitions, that a deck is not refused.
 //!
 //! Definitions, in the order to read them: `Lines` says which lines a text has and what its first
 //! fault is, and `DeckText` which texts are decks. The others say what the code's types mean by
@@ -14,9 +14,8 @@
 //!
 //! Proofs. These have laws that other crates use: `FirstFaults`, that a text by lines says one
 //! thing and has one first fault; `DeckLaws` and `FaultLaws`, of decks and their faults;
-//! `DeckOrFault`, that every text is a deck or has its fault; `LineLemmas` and `LineCases`, of
-//! single lines; `Cards`, `CardLines`, `Puts` and `InDeckLaws`, of what cards load. `Progress`
-//! follows the lines as they are read. `Checks` evaluates definitions.
+//! `LineLemmas`, of single lines; `Cards`, `CardLines`, `Puts` and `InDeckLaws`, of what cards
+//! load. `Progress` follows the lines as they are read.
 #![tactic(auto)]
 
 mod deck;

@@ -14,8 +14,8 @@ use Rattle.drum_bound.specs.BoundOf as of_setting
 use Rattle.drum_ceiling.specs.declared.answer.Ceiling.{Ceiling}
 use Rattle.drum_ceiling.specs.CeilingOf.{IsCeilingOf, IsCeilingRefusal, total_of}
 use Rattle.drum_ceiling.specs.Right.{IsTooDear}
-use Rattle.drum_reached.specs.declared.bracket.Bracket.{Bracket}
-use Rattle.drum_reached.specs.BracketOf.{IsBracketOf}
+use Rattle.drum_ceiling.specs.declared.bracket.Bracket.{Bracket}
+use Rattle.drum_ceiling.specs.BracketOf.{IsBracketOf}
 use Rattle.drum_lines.specs.declared.fault.Fault.{Fault}
 use Rattle.drum_lines.specs.declared.fault.Fault.TheVariants as fault
 use Rattle.drum_lines.specs.declared.limit.Limit.{Limit}

@@ -7,7 +7,7 @@
 //! past the limit of one and of long notes, a ceiling. A `source` opens files and takes each text
 //! back. `files` reads a file to its limit, and the documents and the inputs that files hold;
 //! `texts` reads the texts alone, for a check. `joined` has the parts of a joined form, and
-//! `joined_input` the documents of one. `laws` has laws of the definitions.
+//! `joined_input` the documents of one.
 //!
 //! Definitions, in the order to read them: `Documents` says which texts say documents, and `Limits`
 //! what is known of these. Then come the texts of a joined form (`Joined`) and of files (`Files`,
@@ -22,7 +22,6 @@ mod documents;
 mod files;
 mod joined;
 mod joined_input;
-pub mod laws;
 mod limits;
 mod source;
 mod texts;

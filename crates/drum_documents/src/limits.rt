@@ -8,10 +8,9 @@ ghost use Rattle.drum_documents.specs.Limits.{IsLimit, IsLimitFault, IsProduct};
 use crate::documents::Documents;
 use drum_acceptance::counts::product_of;
 use drum_bound::{Refusal, bound};
-use drum_ceiling::{Ceiling, ceiling};
+use drum_ceiling::{Bracket, Ceiling, ceiling, reached};
 use drum_flow::rediscover;
 use drum_lines::{Fault, Limit};
-use drum_reached::{Bracket, reached};
 use std::alloc::Global;
 
 /// What a run that is followed may take at most is below this, in word times: 3,400 years.

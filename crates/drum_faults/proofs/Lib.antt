@@ -1,11 +1,10 @@
-mod Begin
-mod BeginInputs
+pub mod Begin
+pub mod BeginInputs
 mod BothLoad
-mod ByLine
+pub mod ByLine
 mod GivenLines
 mod Lines
-mod OneList
-mod OnePlaced
+pub mod OnePlaced
 mod Passed
 mod Placed
 mod PlacedInputs

@@ -9,15 +9,16 @@
 //! of inputs. `loaded` are the locations that both a deck and inputs load. `alike` are faults to
 //! whose lines the same was done. `named_text` is a text with its file's name, and `fault_text` a
 //! text in memory, with what is said of a fault behind it. `lines_of_faults` has the lines of all
-//! faults of a deck, a timing table, notes and inputs. `laws` has laws of the definitions.
+//! faults of a deck, a timing table, notes and inputs. `laws` has a law, on texts of which nothing
+//! is said.
 //!
 //! Definitions, in the order to read them: `Slip` (with `SlipTests`) says what was done to a line,
 //! `ByLine` what all faults of a text by lines are, `DeckFaults` which those of a deck's text,
 //! `InputFaults` those of inputs, `Alike` which of them are alike, and `FaultLines` the lines of
 //! all faults. `DeckSoFar` and `NamedTexts` say what the code's types mean by these.
 //!
-//! Proofs. They take the lines one after the other (`SoFar`, `Told`, `Placed`), and show that a
-//! text has one list of faults (`OneList`), the first of which is the reader's (`Begin`).
+//! Proofs. They take the lines one after the other (`SoFar`, `Told`, `Placed`), and show that the
+//! first of all faults is the reader's (`Begin`).
 #![tactic(auto)]
 
 mod alike;

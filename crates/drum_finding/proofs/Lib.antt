@@ -1,9 +1,12 @@
 pub mod Adding
 pub mod Among
 pub mod Fixeds
+pub mod Lacks
 pub mod NamedFlags
 pub mod Namings
 pub mod Nothing
 pub mod Outsides
+pub mod Pasted
 pub mod Steps
 pub mod Whole
+pub mod Words

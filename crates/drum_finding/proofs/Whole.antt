@@ -6,15 +6,20 @@ use Rattle.drum_finding.specs.Finding.{Finding}
 use Rattle.drum_finding.specs.FoundAt.{all_locations}
 use Rattle.drum_finding.specs.Idle.{drum_locations}
 
--- five lists that were added in turn to none
-pub in_turn : (none first second third fourth fifth vs ws xs ys zs : List Finding) → none ≡ [] → first ≡ none ++ vs
-    → second ≡ first ++ ws → third ≡ second ++ xs → fourth ≡ third ++ ys → fifth ≡ fourth ++ zs
-    → fifth ≡ vs ++ ws ++ xs ++ ys ++ zs
-in_turn none first second third fourth fifth vs ws xs ys zs empty v w x y z =
+-- three lists that were added in turn to none
+pub in_turn : (none first second third xs ys zs : List Finding) → none ≡ [] → first ≡ none ++ xs
+    → second ≡ first ++ ys → third ≡ second ++ zs → third ≡ xs ++ ys ++ zs
+in_turn none first second third xs ys zs empty x y z =
     z ∙ ap (λ (all : List Finding). all ++ zs)
-    (y ∙ ap (λ (all : List Finding). all ++ ys)
-    (x ∙ ap (λ (all : List Finding). all ++ xs)
-    (w ∙ ap (λ (all : List Finding). all ++ ws) (v ∙ ap (λ (all : List Finding). all ++ vs) empty))))
+    (y ∙ ap (λ (all : List Finding). all ++ ys) (x ∙ ap (λ (all : List Finding). all ++ xs) empty))
+
+-- and to some
+pub three_in_turn : (before first second third xs ys zs : List Finding) → first ≡ before ++ xs
+    → second ≡ first ++ ys → third ≡ second ++ zs → third ≡ before ++ (xs ++ ys ++ zs)
+three_in_turn before first second third xs ys zs x y z =
+    z ∙ ap (λ (all : List Finding). all ++ zs)
+    (y ∙ ap (λ (all : List Finding). all ++ ys) x ∙ append_assoc before xs ys)
+    ∙ append_assoc before (xs ++ ys) zs
 
 -- four lists that were added in turn
 pub loose_in_turn : (before first second third fourth ws xs ys zs : List Finding) → first ≡ before ++ ws

@@ -1,8 +1,11 @@
 pub mod Edges
 pub mod Finding
 pub mod FindingOf
+pub mod FindingsText
 pub mod FoundAt
 pub mod Idle
-pub mod UnchangedParts
+pub mod Lacking
+pub mod LackingOf
 pub mod NamedOf
 pub mod Shared
+pub mod UnchangedParts

@@ -2,7 +2,6 @@ pub mod Adding
 pub mod Additions
 pub mod Alikes
 pub mod Among
-mod Checks
 pub mod DataAngles
 pub mod Founds
 pub mod FromAngles
@@ -17,7 +16,5 @@ pub mod Orders
 pub mod PassLaws
 pub mod Profiles
 pub mod Proper
-pub mod SlowerTables
 pub mod Targets
 pub mod Turns
-pub mod WalkPasses

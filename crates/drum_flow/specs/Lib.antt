@@ -19,8 +19,6 @@ pub mod Refused
 pub mod RunHops
 pub mod Seen
 pub mod SettingOf
-pub mod Slower
 pub mod Taken
 pub mod Turned
 pub mod Walk
-pub mod WalkTime

@@ -12,27 +12,24 @@
 //! locations, `rediscover`, for where it was made before, and `flow`, which looks whether they are
 //! in order; each gives up past 65,536 nodes (fault 37). `refusal` is why an analysis refuses a
 //! deck, and `cycle` the locations of one, the smallest first. `longest` is the latest end of a
-//! hop. `laws` has laws of the definitions.
+//! hop.
 //!
 //! Definitions, in the order to read them: `Hops` (hops, edges, nodes, and what is executed),
 //! `Executed` (the order of discovery), `Taken` (whether a step may go on from one location to
 //! another), `Accepted` (when a deck is, and each refusal), `Walk`, `RunHops` (the hops of a run),
 //! `Bounded` (what no kept run uses more than), and `Longest` (the latest clock at which a hop can
 //! end). `Profile` says by which ways an instruction may end. `MostPasses` has the number that no
-//! walk passes a mark more often than (the law is in `laws`). `Passes` (a pass raises the counts),
-//! `WalkTime` (what a walk's time depends on) and `Slower` (a timing table that is nowhere quicker
-//! than another) have the words of laws. The others say what the code's types and loops mean by
-//! these: of hops `Patterns`, `Instructions`, `HopsLeft`, `Seen` and `Alike`; of discovery
-//! `InNodes`, `Discovered`, `Found`, `Refused` and `Flow` (with `OneProof`, that what it asks for
-//! has one proof); of cycles `Turned`; of walks `SettingOf`.
+//! walk passes a mark more often than. `Passes` says that a pass raises the counts. The others say
+//! what the code's types and loops mean by these: of hops `Patterns`, `Instructions`, `HopsLeft`,
+//! `Seen` and `Alike`; of discovery `InNodes`, `Discovered`, `Found`, `Refused` and `Flow` (with
+//! `OneProof`, that what it asks for has one proof); of cycles `Turned`; of walks `SettingOf`.
 //!
-//! Proofs. `Checks` evaluates definitions on a deck of two words. These have laws that other crates
-//! use: `Among`, whether a location is one of some; `LongestLaws`, of the latest ends;
-//! `FromAngles`, how long a hop takes from an angle; `DataAngles`, with which D as long; `Orders`,
-//! of the order of discovery; `KeptWalk`, why a kept run is a walk; `Adding`, lemmas on lists that
-//! grow. `Links` has which nodes edges lead to, with `InNodesLaws` and `KeptOpen` on what is open
-//! there. `PassLaws` and `WalkPasses` show how often a walk passes a mark, and `SlowerTables` that
-//! walks by a slower timing table are slower.
+//! Proofs. These have laws that other crates use: `Among`, whether a location is one of some;
+//! `LongestLaws`, of the latest ends; `FromAngles`, how long a hop takes from an angle;
+//! `DataAngles`, with which D as long; `Orders`, of the order of discovery; `KeptWalk`, why a kept
+//! run is a walk; `Adding`, lemmas on lists that grow. `Links` has which nodes edges lead to, with
+//! `InNodesLaws` and `KeptOpen` on what is open there. `PassLaws` shows how often a walk passes a
+//! mark.
 #![tactic(auto)]
 
 pub mod alike;
@@ -41,7 +38,6 @@ mod discovery;
 mod flow_graph;
 mod hops;
 mod instructions;
-pub mod laws;
 pub mod location_set;
 pub mod longest;
 mod node;

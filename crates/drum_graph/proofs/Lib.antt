@@ -1,4 +1,3 @@
-mod Checks
 pub mod Edges
 pub mod Nodes
 pub mod Outlines

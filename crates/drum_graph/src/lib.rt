@@ -11,7 +11,7 @@
 //! `written` the executed words that they write. A `node` is what is drawn as a box, `loops` are
 //! the edges that close loops, and `graph` is what is drawn of a deck; its `outline` has words that
 //! go straight on from one to the next as one box. `drawing` writes the graph out: `boxes` the line
-//! of a box, and `arrows` the lines of its arrows. `laws` has laws of the definitions.
+//! of a box, and `arrows` the lines of its arrows.
 //!
 //! Definitions, in the order to read them: `Graph` is what is drawn of each executed location,
 //! `GraphText` its lines, `Outline` which words are one box, and `GraphOf` how all this is held.
@@ -19,7 +19,7 @@
 //! Proofs. There is a file for each part of a node (`Words` for what is written, with `Among`;
 //! `PatternOperations`; `Stopping`; `Taken` for where it goes on), `Nodes` for all of them, `Edges`
 //! for those that close loops, `Outlines` for words that are put into boxes, and `Texts` for the
-//! lines. `Checks` evaluates the definitions on a deck of three words.
+//! lines.
 #![tactic(auto)]
 
 mod arrows;
@@ -27,7 +27,6 @@ mod boxes;
 mod drawing;
 mod fitness;
 mod graph;
-pub mod laws;
 mod loops;
 mod node;
 mod onward;

@@ -1,5 +1,4 @@
 pub mod AddingUp
-pub mod Checks
 pub mod DataAngles
 pub mod Gathers
 pub mod KindRows
@@ -8,7 +7,6 @@ pub mod Lines
 pub mod NextAngles
 pub mod SameKinds
 pub mod Strides
-pub mod WaitChecks
 pub mod WaitLines
 pub mod Waiting
 pub mod WholeFits

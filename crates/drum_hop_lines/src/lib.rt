@@ -21,12 +21,11 @@
 //! hop that is told, and `KindsOf` are kinds of hops and what they take and wait.
 //!
 //! Proofs. `Lines` puts lines together of their pieces, `Gathers` has lines that go out many at a
-//! time, and `Strides` what a step's answer tells of its stride. `Checks` and `WaitChecks` evaluate
-//! the definitions. Of kinds: `SameKinds` (`==` of kinds), `KindRows` (where a map has a kind's
-//! row, and how rows are sorted), `Waiting` (how long a hop waits at most), and `WaitLines`.
-//! `LaterMoments` has a hop's moments as they are at its angle. `AddingUp`, `WholeFits`,
-//! `DataAngles` and `NextAngles` are on what hops take in all, and on the angles of their lines:
-//! crates above use them.
+//! time, and `Strides` what a step's answer tells of its stride. Of kinds: `SameKinds` (`==` of
+//! kinds), `KindRows` (where a map has a kind's row, and how rows are sorted), `Waiting` (how long
+//! a hop waits at most), and `WaitLines`. `LaterMoments` has a hop's moments as they are at its
+//! angle. `AddingUp`, `WholeFits`, `DataAngles` and `NextAngles` are on what hops take in all, and
+//! on the angles of their lines: crates above use them.
 #![tactic(auto)]
 
 mod acted;

@@ -1,11 +1,8 @@
-mod Checks
 mod Common
 pub mod Defaults
 pub mod Firsts
 pub mod Prefixes
 pub mod Halves
-mod InputLines
-mod InputsOrFault
 pub mod Marks
 pub mod OneLine
 pub mod Own

@@ -5,7 +5,7 @@
 //! numbers that a line is written with, and `accumulator` the accumulator's. `setting` is what a
 //! line states once at most, and `line` reads one line. `settings` and `drum_words` keep what was
 //! stated. `stating` is inputs of which some lines were taken. `read` has `read_inputs`; `inputs`
-//! is what it gives, and `fault` why a text is no inputs. `laws` has laws of the definitions.
+//! is what it gives, and `fault` why a text is no inputs.
 //!
 //! Definitions, in the order to read them: `InputsText` says which texts are inputs and why others
 //! are refused (over the first fault of `drum_deck`'s lines), and `Inputs` what inputs state, as
@@ -13,7 +13,7 @@
 //!
 //! Proofs. `Progress` is on how the lines are read, one by one. `Refusals` shows that a text has
 //! one fault, `Repeated` when a line says again what others say, and `Sounds` what one sound line
-//! more is; `drum_faults` uses these too. `Checks` evaluates the definitions.
+//! more is; `drum_faults` uses these too.
 #![tactic(auto)]
 
 mod accumulator;
@@ -22,7 +22,6 @@ mod drum_words;
 mod fault;
 mod inputs;
 mod key;
-pub mod laws;
 mod line;
 mod read;
 mod setting;

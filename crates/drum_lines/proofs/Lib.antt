@@ -1,3 +1,2 @@
-mod Checks
 pub mod NoLine
 pub mod Sending

@@ -18,7 +18,7 @@
 //! and `Sent` what has gone out of a text.
 //!
 //! Proofs. `Sending` has laws of texts that go out one behind the other, and `NoLine` says which
-//! replies are no fault's line: both serve the crates above. `Checks` evaluates the definitions.
+//! replies are no fault's line: both serve the crates above.
 #![tactic(auto)]
 
 mod failed_write;

@@ -6,7 +6,6 @@ pub mod Besides
 pub mod Closings
 pub mod Flags
 pub mod LinkRows
-pub mod Markings
 pub mod Nestings
 pub mod OneWays
 pub mod Paths

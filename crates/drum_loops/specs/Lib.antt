@@ -4,7 +4,6 @@ pub mod Closing
 pub mod Flags
 pub mod Links
 pub mod Loops
-pub mod Marked
 pub mod Nested
 pub mod Ranks
 pub mod Reached

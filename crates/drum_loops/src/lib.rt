@@ -9,28 +9,26 @@
 //! does, `sparing` tries each and leaves out those that aren't needed; `beside` looks whether marks
 //! on the others are enough. `closing` puts these together. `links` is the graph of all links, and
 //! `reached` what leads to what there without coming to a location; by these `nesting` tells
-//! whether one loop stands inside another one. `laws` has laws of the definitions.
+//! whether one loop stands inside another one.
 //!
-//! Definitions, in the order to read them: `Loops` says which edges close the loops, `Nested` which
-//! loop stands inside another, and `Marked` what notes with more marks are. The others say how
-//! these edges are found: `Arranged` what an order of nodes is in which they are those that lead
-//! back, `Arranging` what is so of the search for it, `Spared` when marks are enough and which are
-//! left out, and `Flags`, `Ranks`, `Closing`, `Links` and `Reached` what the code's lists mean by
-//! these.
+//! Definitions, in the order to read them: `Loops` says which edges close the loops, and `Nested`
+//! which loop stands inside another. The others say how these edges are found: `Arranged` what an
+//! order of nodes is in which they are those that lead back, `Arranging` what is so of the search
+//! for it, `Spared` when marks are enough and which are left out, and `Flags`, `Ranks`, `Closing`,
+//! `Links` and `Reached` what the code's lists mean by these.
 //!
 //! Proofs. `Befores` has what stands before what in an order, `Paths` what leads along it,
 //! `Arrangements` the moves of the search, `Rankings`, `TargetLaws` and `Backs` the edges that lead
 //! back, `OneWays` those that go on too, and `Closings` puts them together. `Sparings` is on edges
-//! that are left out, and `Besides` on the graph without the others. `Markings` is on notes with
-//! more marks. `LinkRows` is on the graph of all links, `Suches` on one of many with a property,
-//! `Reachings` on what is reached past a loop's head, and `Nestings` on what that says of nodes.
+//! that are left out, and `Besides` on the graph without the others. `LinkRows` is on the graph of
+//! all links, `Suches` on one of many with a property, `Reachings` on what is reached past a loop's
+//! head, and `Nestings` on what that says of nodes.
 #![tactic(auto)]
 
 mod arrangement;
 mod arranging;
 mod beside;
 mod closing;
-pub mod laws;
 mod links;
 mod nesting;
 mod one_way;

@@ -8,8 +8,7 @@
 //! end, and `written` which drum words it writes. `passes` is what the pass of a mark does to each
 //! count. `counts` is how often marks are passed (of as many as `Mark::MOST` says), and that a full
 //! mark isn't passed again. `open` is which exits of subroutines are open, and with which way back.
-//! `left` is how a run left the notes, and `verdict` what is found of a run. `laws` has laws of the
-//! definitions.
+//! `left` is how a run left the notes, and `verdict` what is found of a run.
 //!
 //! Definitions, in the order to read them: `Contents` (what a machine holds), `Effect` (what an
 //! operation does to it, and which stop it meets), `Timing` (the moments of a step: when its word
@@ -20,18 +19,15 @@
 //! graph is made of, and `Ending`, by which way a step ended. The others say what the code's types
 //! mean by these: `CountsIn`, `OpenIn`, `WaysLeft`.
 //!
-//! Proofs. `Checks` (single steps with their times), `Effects` and `Marks` evaluate the
-//! definitions. These have laws that other crates use: `Alone`, which drum words stay (it stands on
+//! Proofs. These have laws that other crates use: `Alone`, which drum words stay (it stands on
 //! `Going`: what an effect leaves, its step leaves); `Ends`, by which way a step ends, and when;
 //! `Chained`, that the moments of a step are a chain's, so that they keep to the laws of a
-//! clockwork; `SinceLaws`, of counts over all edges, and that an outer mark stands earlier;
-//! `Prefixes`, of runs.
+//! clockwork; `SinceLaws`, of counts over all edges, and that an outer mark stands earlier.
 #![tactic(auto)]
 
 mod card;
 pub mod chain;
 mod counts;
-pub mod laws;
 mod left;
 pub mod moments;
 mod open;

@@ -2,8 +2,8 @@
 
 use crate::going::Going;
 use crate::pieces::{Content, Weighed, weigh};
+use drum_ceiling::Bracket;
 use drum_deck::Deck;
-use drum_reached::Bracket;
 use drum_scene::{Edge, Edges, Extent, Kind, Rows, Scene, Shares, TakenEdge, Tallies, Walk};
 use drum_times::{Notes, Times};
 use std::alloc::{AllocError, Global};

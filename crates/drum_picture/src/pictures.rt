@@ -5,10 +5,10 @@ use crate::of_bracket::of_bracket;
 use crate::of_run::of_run;
 use crate::run::Run;
 use drum_bound::Analysis;
+use drum_ceiling::Bracket;
 use drum_deck::Deck;
 use drum_drawing::draw;
 use drum_machine::Verdict;
-use drum_reached::Bracket;
 use drum_times::{Notes, Times};
 use std::alloc::{AllocError, Global};
 

@@ -6,8 +6,6 @@ mod Followed
 mod Leading
 mod LineTexts
 pub mod NoLine
-mod OneRun
-mod OneVerdict
-mod Seen
+pub mod Seen
 mod TraceBegun
 mod Traced

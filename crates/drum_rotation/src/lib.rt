@@ -4,7 +4,7 @@
 //! Code. `clockwork` has the trait of all that takes time. `at_angle`, `at_parity` and `seek` are
 //! waits, and `delay` is a time that is the same from every clock. By `then` and `optional` they
 //! become a chain. `chain` has the laws of chains, over those of the trait alone, and of single
-//! waits; `laws` has those of the definitions.
+//! waits.
 //!
 //! Definitions, in the order to read them: `Moment` says what the first moment is at which the
 //! angle has a property. `Available` says at which angles a word can be had: under the heads, if it
@@ -20,7 +20,6 @@ mod at_parity;
 pub mod chain;
 mod clockwork;
 mod delay;
-pub mod laws;
 mod optional;
 mod seek;
 mod then;

@@ -6,7 +6,7 @@
 //! `notes/edges` and `notes/name`, which are parts of `notes/mark` (it knows on which edges it
 //! stands, which of some marks stands on one, and how many there may be), `notes/call`,
 //! `notes/listing`, `notes/pattern` and `notes/programmed`. `fault` is why a document is neither,
-//! and `key_path` how a fault names a key. `laws` has a law of the definitions.
+//! and `key_path` how a fault names a key.
 //!
 //! Definitions, in the order to read them: `Edges` says what leads from one location onto another,
 //! `Marks` on which edges marks stand, `Allowed` what notes are and which instructions they allow,
@@ -20,7 +20,6 @@
 mod entry;
 mod fault;
 mod key_path;
-pub mod laws;
 mod notes;
 mod times;
 

@@ -15,14 +15,13 @@ mod LongMarks
 mod LongSaid
 mod LongSound
 mod Naming
-mod NotesFaultless
+pub mod NotesFaultless
 mod NotesFaults
 mod NotesLaws
-mod NotesSaid
+pub mod NotesSaid
 mod NotesSound
 mod Repeating
-mod Sequences
-mod ShortAreLong
+pub mod Sequences
 mod TablesFaults
 mod TimesFaultless
 mod TimesFaults

@@ -7,7 +7,6 @@ ghost use Rattle.drum_times.specs.Allowed.{Notes};
 ghost use Rattle.drum_times.specs.declared.fault.NoteFault.{NoteFault};
 ghost use Rattle.drum_toml.specs.AllFaults.{AreAllFaults, all_long_faults};
 ghost use Rattle.drum_toml.specs.LongNotes.{IsLongNotes, long_notes_faults};
-ghost use Rattle.drum_toml.specs.NotesDocument.{IsNotes, notes_faults};
 ghost use Rattle.drum_toml.specs.Refused.{IsDocument, IsRefused};
 ghost use Rattle.drum_toml.specs.TimesDocument.{IsTimes, times_faults};
 ghost use Rattle.toml.specs.Data.{Members};
@@ -21,26 +20,12 @@ pub fn says_times()
         → (times : Op → Entry) × IsTimes document times }
 {}
 
-/// And notes likewise.
-pub fn says_notes()
-    ensures right { (document : Members) (notes : Notes) → IsNotes document notes
-        → notes_faults document ≡ [] }
-    ensures said { (document : Members) → notes_faults document ≡ []
-        → (notes : Notes) × IsNotes document notes }
-{}
-
 /// And long notes likewise.
 pub fn says_long_notes()
     ensures right { (document : Members) (notes : Notes) → IsLongNotes document notes
         → long_notes_faults document ≡ [] }
     ensures said { (document : Members) → long_notes_faults document ≡ []
         → (notes : Notes) × IsLongNotes document notes }
-{}
-
-/// What says short notes says the same long notes.
-pub fn short_notes_are_long()
-    ensures { (document : Members) (notes : Notes) → IsNotes document notes
-        → IsLongNotes document notes }
 {}
 
 /// The first of all faults of bytes is the one for which they are refused as a timing table, and

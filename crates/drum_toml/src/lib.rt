@@ -14,7 +14,7 @@
 //! and `document/table_faults` gather those of tables; `times/faults` those of a timing table;
 //! `notes/long_faults` those of notes, with `notes/mark_faults`, `notes/list_faults`,
 //! `notes/call_faults` and `notes/repeated_faults`. `complaint` has what `toml` says of bytes that
-//! are no document. `laws` has laws of the definitions.
+//! are no document. `laws` has those laws of the definitions that other crates call.
 //!
 //! Definitions, in the order to read them: `Document` has what both documents share, the faults of
 //! a table first of all. `TimesDocument` and `NotesDocument` say what each document says, and its

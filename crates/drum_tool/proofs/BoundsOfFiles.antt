@@ -17,7 +17,7 @@ use Rattle.drum_documents.specs.Files.{AreHeld, AreNotHeld, AreTold, FilesTold, 
 use Rattle.drum_lines.specs.declared.part.Part.TheVariants as part
 use Rattle.drum_tool.specs.Commands.{AnswersCommand, Replies}
 use Rattle.drum_lines.specs.Reply.{Reply, bound_reply, fault_reply}
-use Rattle.drum_answers.specs.Says.{SaysBound}
+use Rattle.drum_tool.specs.Says.{SaysBound}
 use Rattle.drum_tool.specs.BoundOfFiles.{IsBoundOfFiles}
 use Rattle.drum_tool.specs.Words.{AreRefused, refused_reply}
 

@@ -1,6 +1,9 @@
+pub mod Bases
+mod BoundsOfFiles
 mod Doing
+pub mod Early
 mod Looking
 mod OfNoFile
 mod Replies
-mod BoundsOfFiles
+mod Soundly
 mod Worded

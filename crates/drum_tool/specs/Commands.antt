@@ -22,7 +22,7 @@ use Rattle.drum_documents.specs.TextsHeld.{AreNoneHeld, AreTextsHeld, IsInputsTe
 use Rattle.drum_replay.specs.Given.{given}
 use Rattle.drum_documents.specs.Limits.{IsAnalysisFault}
 use Rattle.drum_replay.specs.Replay.{Given, IsReplayFault, IsTraceFault}
-use Rattle.drum_answers.specs.Says.{Refuses, RefusesCheck, Says, SaysBound, SaysCheck}
+use Rattle.drum_tool.specs.Says.{Refuses, RefusesCheck, Says, SaysBound, SaysCheck}
 use Rattle.drum_lines.specs.Reply.{Reply}
 use Rattle.drum_replay.specs.RunReply.{SaysRunPicture, SaysTrace, SaysVerdict}
 use Rattle.drum_lines.specs.Reply.{fault_reply}

@@ -1,4 +1,7 @@
+pub mod Basis
+pub mod BoundOfFiles
+pub mod Checked
 pub mod Commands
 pub mod DoesCommand
-pub mod BoundOfFiles
+pub mod Says
 pub mod Words

@@ -2,10 +2,10 @@
 
 use crate::page::Page;
 use drum_bound::{Analysis, Flow, Refusal};
+use drum_ceiling::Bracket;
 use drum_deck::{Deck, DeckFault};
 use drum_devices::WholeError;
 use drum_emulator::{Machine, Memory};
-use drum_reached::Bracket;
 use drum_times::{NoteFault, Notes, Times};
 use drum_tool::{Fault, Findings, InputFault, Inputs, Lacking, Status, Verdict};
 use std::alloc::AllocError;

@@ -3,11 +3,11 @@
 use crate::answer::Answer;
 use crate::page::Page;
 use drum_bound::{Refusal, accept, analyse, bound, flow};
+use drum_ceiling::reached;
 use drum_core::Word;
 use drum_deck::read_deck;
 use drum_devices::{Reading, Writing, read_whole};
 use drum_emulator::{Machine, Setup};
-use drum_reached::reached;
 use drum_toml::{long_notes_faults, read_long_notes, read_notes, read_times};
 use drum_tool::{Documents, Findings, Inputs, Lacking, read_inputs, replay, run, run_joined};
 use std::alloc::Global;

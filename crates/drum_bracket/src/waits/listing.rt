@@ -8,10 +8,10 @@ ghost use Rattle.drum_bracket.specs.RoundsWaitsOf.{listed, row_text};
 use super::WaitsInRounds;
 use super::kind_row::KindRow;
 use crate::prices::send_totals;
+use drum_ceiling::Bracket;
 use drum_devices::Output;
 use drum_hop_lines::{send_kind, send_total};
 use drum_lines::WriteFault;
-use drum_reached::Bracket;
 use drum_times::Times;
 
 /// Writes the lines of rows.

@@ -9,7 +9,7 @@ use Rattle.std.specs.List.{enumerate_from}
 use Rattle.drum_times.specs.declared.notes.mark.Mark.{Mark}
 use Rattle.drum_rounds.specs.InRounds.{passes_in}
 use Rattle.drum_ceiling.specs.CeilingOf.{prices_of}
-use Rattle.drum_reached.specs.declared.bracket.Bracket.{Bracket}
+use Rattle.drum_ceiling.specs.declared.bracket.Bracket.{Bracket}
 use Rattle.drum_lines.specs.Sent.{IsSent}
 use Rattle.drum_lines.proofs.Sending.{sent_more, sent_cut}
 use Rattle.drum_bracket.specs.CeilingText.{price_line, price_line_at}

@@ -6,7 +6,7 @@ use Rattle.std.specs.Prelude.{option_map}
 use Rattle.drum_lines.specs.Output.{GetsComplaint, GetsResult, device}
 use Rattle.drum_lines.specs.Reply.{lists}
 use Rattle.drum_lines.proofs.NoLine.{no_line, no_line_of_lists}
-use Rattle.drum_lacking.specs.Lacking.{check_text}
+use Rattle.drum_finding.specs.Lacking.{check_text}
 use Rattle.drum_check.specs.FindingsOf.{found_in}
 use Rattle.drum_faults.specs.FaultLines.{Named}
 use Rattle.drum_faults.specs.NamedTexts.{named}
@@ -14,10 +14,10 @@ use Rattle.drum_documents.specs.Asked.{name_in, named_with}
 use Rattle.drum_documents.specs.TextsOf.{inputs_in, texts_in}
 use Rattle.drum_documents.specs.Documents.{Texts}
 use Rattle.drum_documents.specs.TextsHeld.{IsInputsText}
-use Rattle.drum_answers.specs.declared.checking.Checked.{Checked}
-use Rattle.drum_answers.specs.declared.checking.Checked.TheVariants.{Faulty, Sound}
-use Rattle.drum_answers.specs.Checked.{IsChecked}
-use Rattle.drum_answers.specs.Says.{findings_reply, status_after_check}
+use Rattle.drum_tool.specs.declared.checking.Checked.{Checked}
+use Rattle.drum_tool.specs.declared.checking.Checked.TheVariants.{Faulty, Sound}
+use Rattle.drum_tool.specs.Checked.{IsChecked}
+use Rattle.drum_tool.specs.Says.{findings_reply, status_after_check}
 use Rattle.drum_tool.proofs.Looking.{of_file, of_none}
 use Rattle.drum_tool.proofs.OfNoFile.{check_of_none}
 use Rattle.drum_tool.proofs.commands.check_files.Goals as goal

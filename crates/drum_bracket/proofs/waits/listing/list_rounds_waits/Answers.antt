@@ -6,7 +6,7 @@ use Rattle.std.proofs.lemmas.Result.{err_from_is_err_and}
 use Rattle.drum_times.specs.Entries.{entry_in}
 use Rattle.drum_rounds.specs.InRounds as walks
 use Rattle.drum_ceiling.specs.CeilingOf.{total_of}
-use Rattle.drum_reached.specs.declared.bracket.Bracket.{Bracket}
+use Rattle.drum_ceiling.specs.declared.bracket.Bracket.{Bracket}
 use Rattle.drum_lines.specs.declared.failed_write.WriteFault.{WriteFault}
 use Rattle.drum_lines.specs.Sent.{IsSent}
 use Rattle.drum_lines.proofs.Sending.{all_three, cut_begin, cut_middle, written_cut, written_whole}

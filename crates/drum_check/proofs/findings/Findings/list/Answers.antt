@@ -2,7 +2,7 @@ use Rattle.std.proofs.Common.{List, map, subst}
 use Rattle.drum_lines.specs.Sent.{IsWritten}
 use Rattle.drum_finding.specs.declared.finding.Finding.{Finding}
 use Rattle.drum_finding.specs.FindingOf.{seen}
-use Rattle.drum_lacking.specs.Lacking.{check_text}
+use Rattle.drum_finding.specs.Lacking.{check_text}
 use Rattle.drum_check.proofs.findings.Findings.list.Goals as goal
 
 pub returns-clause-written : goal.returns-clause-written

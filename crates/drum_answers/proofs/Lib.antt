@@ -1,3 +1,0 @@
-pub mod Bases
-pub mod Early
-mod Soundly

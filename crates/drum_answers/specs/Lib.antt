@@ -1,3 +1,0 @@
-pub mod Basis
-pub mod Checked
-pub mod Says

@@ -1,0 +1,13 @@
+-- When a ceiling with a walk in rounds is right.
+use Rattle.drum_deck.specs.declared.deck.Deck.{Deck}
+use Rattle.drum_times.specs.declared.times.Times.{Times}
+use Rattle.drum_times.specs.Allowed.{Notes}
+use Rattle.drum_rounds.specs.InRounds.{IsInRoundsOf}
+use Rattle.drum_ceiling.specs.CeilingOf.{IsCeilingOf}
+use Rattle.drum_ceiling.specs.declared.bracket.Bracket.{Bracket}
+
+-- The one is a ceiling of the deck, the other a walk of it.
+pub record IsBracketOf (deck : Deck) (times : Times) (notes : Notes) (bracket : Bracket) : Type 0
+  where
+    pub ceiling : IsCeilingOf deck times notes bracket.ceiling
+    pub walk : IsInRoundsOf deck times notes bracket.walk

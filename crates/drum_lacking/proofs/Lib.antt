@@ -1,3 +1,0 @@
-pub mod Lacks
-pub mod Pasted
-pub mod Words

@@ -1,3 +1,0 @@
-pub mod FindingsText
-pub mod Lacking
-pub mod LackingOf

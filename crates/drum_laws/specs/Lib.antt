@@ -1,0 +1,4 @@
+pub mod Marked
+pub mod Slower
+pub mod TellsOf
+pub mod WalkTime

@@ -1,0 +1,27 @@
+//! Laws of the definitions of `drum_documents`.
+
+ghost use Rattle.std.specs.Prelude.{◌≡◌, ◌≤◌, ℕ};
+ghost use Rattle.drum_walks.specs.Worst.{IsWorst};
+ghost use Rattle.drum_ceiling.specs.declared.answer.Ceiling.{Ceiling};
+ghost use Rattle.drum_ceiling.specs.CeilingOf.{total_of};
+ghost use Rattle.drum_lines.specs.declared.limit.Limit.{Limit};
+ghost use Rattle.drum_documents.specs.declared.documents.Documents.{Documents};
+ghost use Rattle.drum_documents.specs.Documents.{setting_of};
+ghost use Rattle.drum_documents.specs.Limits.{IsCeiling, IsLimit};
+
+use crate::acceptance::accepted_is_not_refused;
+
+/// A ceiling of documents is never below what their worst walk takes.
+pub fn no_ceiling_is_below_the_bound()
+    ensures { (documents : Documents) (bound : ℕ) (ceiling : Ceiling)
+        → IsWorst (setting_of documents) bound → IsCeiling documents ceiling
+        → bound ≤ total_of ceiling }
+{}
+
+/// What limits a run is either a bound or a ceiling: no documents have both.
+pub fn one_limit()
+    ensures { (documents : Documents) (by other : Limit) (most least : ℕ)
+        → IsLimit documents by most → IsLimit documents other least → by ≡ other }
+{
+    accepted_is_not_refused();
+}

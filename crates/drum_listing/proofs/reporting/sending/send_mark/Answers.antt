@@ -1,0 +1,37 @@
+use Rattle.std.proofs.Common.{ℕ, List, ◌++◌, ◌∙◌, ap, subst}
+use Rattle.std.specs.Prelude.{codes, decimal}
+use Rattle.drum_core.specs.Numeral.{digits_of}
+use Rattle.drum_lines.specs.Sent.{IsSent}
+use Rattle.drum_lines.specs.NameText.{name_text}
+use Rattle.drum_lines.proofs.Sending.{named_texts}
+use Rattle.drum_listing.proofs.reporting.sending.send_mark.Goals as goal
+
+pub returns-clause-sent : goal.returns-clause-sent
+returns-clause-sent g c =
+    let Sent : List ℕ → Type 0 =
+    IsSent (g.O.Output.written c.args.writer.now) (g.O.Output.written c.send.new.output) c.args.sent
+    c.send.result in
+    let numbers : List ℕ = decimal c.args.passed ++ codes " of " ++ decimal c.args.mark.now.most
+    ++ name_text c.args.mark.now.name ++ codes "\n" in
+    let told : Sent (codes "mark "
+    ++ (c.four_digits-from.result ++ (codes " " ++ (c.four_digits-onto.result ++ (codes " passed " ++ numbers))))) =
+    subst (λ (rest : List ℕ). Sent
+    (codes "mark " ++ (c.four_digits-from.result
+    ++ (codes " " ++ (c.four_digits-onto.result ++ (codes " passed " ++ rest))))))
+    (named_texts (codes " of ") c.as_bytes.result.now (decimal c.args.passed)
+    c.as_bytes-2.result.now (decimal c.args.mark.now.most)
+    c.name_pieces.result.0.now c.name_pieces.result.1.now (name_text c.args.mark.now.name)
+    (c.as_bytes.ensures.value ∙ c.format.ensures.text)
+    (c.as_bytes-2.ensures.value ∙ c.format-2.ensures.text)
+    c.name_pieces.ensures.value)
+    c.send.ensures.sent in
+    let from : Sent (codes "mark "
+    ++ (digits_of 4 c.args.mark.now.from.number
+    ++ (codes " " ++ (c.four_digits-onto.result ++ (codes " passed " ++ numbers))))) =
+    subst (λ (digits : List ℕ). Sent
+    (codes "mark " ++ (digits ++ (codes " " ++ (c.four_digits-onto.result ++ (codes " passed " ++ numbers))))))
+    (c.four_digits-from.ensures ∙ ap (digits_of 4) c.number.ensures) told in
+    subst (λ (digits : List ℕ). Sent
+    (codes "mark " ++ (digits_of 4 c.args.mark.now.from.number
+    ++ (codes " " ++ (digits ++ (codes " passed " ++ numbers))))))
+    (c.four_digits-onto.ensures ∙ ap (digits_of 4) c.number-2.ensures) from

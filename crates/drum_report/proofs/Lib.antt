@@ -1,3 +1,0 @@
-mod Checks
-pub mod Spending
-pub mod Tallying
