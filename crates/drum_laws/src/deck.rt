@@ -11,7 +11,8 @@ ghost use Rattle.drum_deck.specs.declared.deck.fault.DeckFault.{DeckFault};
 ghost use Rattle.drum_core.specs.declared.word.Word.{Word};
 
 /// Every text is a deck, or it has its fault; and it is the deck of one list of lines. (That it
-/// is not both, and has no other fault, two of the laws below say.)
+/// isn't both says the law `not_refused` of `drum_deck`, and that it has no other fault the next
+/// one.)
 pub fn deck_or_fault()
     ensures either { (text : List ℕ) → ((lines : List Line) × IsDeck text lines)
         ⊎ ((fault : DeckFault) × IsRefused text fault) }

@@ -6,7 +6,8 @@ ghost use Rattle.drum_toml.specs.LongNotes.{IsLongNotes};
 ghost use Rattle.drum_toml.specs.NotesDocument.{IsNotes, notes_faults};
 ghost use Rattle.toml.specs.Data.{Members};
 
-/// And notes likewise.
+/// A document says short notes exactly if it has no fault, as `drum_toml` has it of a timing table
+/// and of long notes: so what says them is read, memory aside, and what says none is refused.
 pub fn says_notes()
     ensures right { (document : Members) (notes : Notes) → IsNotes document notes
         → notes_faults document ≡ [] }
