@@ -8,7 +8,6 @@ use Rattle.drum_times.specs.Allowed.{Notes}
 use Rattle.drum_times.specs.declared.notes.call.Call.{Call}
 use Rattle.drum_times.specs.Short.{is_plain, is_short}
 use Rattle.drum_flow.specs.Accepted.{capped}
-use Rattle.drum_acceptance.proofs.Products.{few_told, many_told}
 use Rattle.drum_finding.specs.Finding.{Finding, too_large}
 use Rattle.drum_finding.specs.FoundAt.{too_many}
 
@@ -43,18 +42,6 @@ told_small notes product short none = elim (cases_lt 4000000 product) [
       cc)
   | inr small ↦ small
 ]
-
--- as the code comes to it
-pub none_too_many : (notes : Notes) (product size : ℕ) → size ≡ capped product → size ≤ 4000000
-    → [] ≡ too_many notes product
-none_too_many notes product size is low =
-    sym (small_untold notes product (few_told product (omega (arith, is, low))))
-
-pub one_too_many : (notes : Notes) (product size : ℕ) → is_short notes ≡ true → size ≡ capped product
-    → 4000000 < size → too_large size ∷ [] ≡ too_many notes product
-one_too_many notes product size short is high =
-    ap (λ (n : ℕ). let found : List Finding = too_large n ∷ [] in found) is
-    ∙ sym (large_told notes product short (many_told product (omega (arith, is, high))))
 
 -- short notes have no calls
 pub short_plain : (notes : Notes) → is_short notes ≡ true → notes.calls ≡ []
