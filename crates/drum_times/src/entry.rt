@@ -1,3 +1,6 @@
+//! An operation's entry of the timing table. What a document says of it is in `TimesDocument` of
+//! `drum_toml`, and when its numbers count in `Timing` of `drum_machine`.
+
 ghost use Rattle.std.specs.Prelude.{◌≤◌};
 
 use drum_core::Parity;

@@ -13,9 +13,9 @@ use Rattle.drum_toml.specs.declared.times.read_entry.Form.{Form}
 use Rattle.drum_toml.specs.AllFaults.{Adds}
 use Rattle.drum_toml.specs.Document.{location_of, location_in, locations_at}
 use Rattle.drum_toml.specs.Document.{Fault, kind, missing, range, unknown_in, missing_in, at_key, array_faults}
-use Rattle.drum_toml.specs.Document.{element_faults, number_faults, is_one_of, text}
-use Rattle.drum_toml.specs.TimesDocument.{key_of, keys_of, form_of, entry_faults, plain_faults, rest_faults}
-use Rattle.drum_toml.specs.TimesDocument.{operation_faults, operations_faults, times_faults}
+use Rattle.drum_toml.specs.Document.{number_faults, is_one_of, text}
+use Rattle.drum_toml.specs.TimesDocument.{keys_of, form_of, entry_faults, plain_faults, rest_faults}
+use Rattle.drum_toml.specs.TimesDocument.{operations_faults, times_faults}
 use Rattle.drum_toml.specs.Value.{fault_of, StandsFor}
 use Rattle.drum_toml.proofs.Adding.{adds_more}
 use Rattle.drum_toml.proofs.EntryFaults.{text_is_right}
@@ -44,16 +44,6 @@ not_array low high check path (datetime dt) is = refl
 not_array low high check path (array items) is = cc
 not_array low high check path (table fields) is = refl
 
-pub not_table : (check : ℕ → List ℕ → Members → List Fault) (number : ℕ) (path : List ℕ) (d : Data)
-    → None ≡ as_table d → element_faults check number path d ≡ kind path ∷ []
-not_table check number path (string s) is = refl
-not_table check number path (integer z) is = refl
-not_table check number path (float x) is = refl
-not_table check number path (boolean b) is = refl
-not_table check number path (datetime dt) is = refl
-not_table check number path (array items) is = refl
-not_table check number path (table fields) is = cc
-
 pub table_from : (d : Data) (fields : Members) → Some fields ≡ as_table d → d ≡ table fields
 table_from (string s) fields e = cc
 table_from (integer z) fields e = cc
@@ -65,55 +55,6 @@ table_from (table ms) fields e = ap table (go e)
   where
     go : Some fields ≡ Some ms → ms ≡ fields
     go h = cc
-
--- of an operation's
-abbrev found_operation : Op → Option Data → List Fault
-found_operation op found = elim found [
-  | None ↦ missing (codes "op." ++ key_of op) ∷ []
-  | Some value ↦ (elim value [
-    | table fields ↦ entry_faults op (codes "op." ++ key_of op ++ codes ".") fields
-    | _ ↦ kind (codes "op." ++ key_of op) ∷ []
-  ])
-]
-
-pub lacks_operation : (T : Members) (op : Op) (at key : List ℕ) → at ≡ codes "op." → key ≡ key_of op
-    → None ≡ get_member key T → missing (at ++ key) ∷ [] ≡ operation_faults T op
-lacks_operation T op at key here is lacks =
-    ap (λ (path : List ℕ). missing (path ++ key) ∷ []) here
-    ∙ ap (λ (path : List ℕ). missing (codes "op." ++ path) ∷ []) is
-    ∙ ap (found_operation op) (lacks ∙ ap (λ (k : List ℕ). get_member k T) is)
-
-abbrev value_of_operation : Op → Data → List Fault
-value_of_operation op value = elim value [
-  | table fields ↦ entry_faults op (codes "op." ++ key_of op ++ codes ".") fields
-  | _ ↦ kind (codes "op." ++ key_of op) ∷ []
-]
-
-wrong_value : (op : Op) (d : Data) → None ≡ as_table d → kind (codes "op." ++ key_of op) ∷ [] ≡ value_of_operation op d
-wrong_value op (string s) is = refl
-wrong_value op (integer z) is = refl
-wrong_value op (float x) is = refl
-wrong_value op (boolean b) is = refl
-wrong_value op (datetime dt) is = refl
-wrong_value op (array items) is = refl
-wrong_value op (table fields) is = cc
-
-pub wrong_operation_kind : (T : Members) (op : Op) (at key : List ℕ) (d : Data) → at ≡ codes "op." → key ≡ key_of op
-    → Some d ≡ get_member key T → None ≡ as_table d → kind (at ++ key) ∷ [] ≡ operation_faults T op
-wrong_operation_kind T op at key d here is has no_table =
-    ap (λ (path : List ℕ). kind (path ++ key) ∷ []) here
-    ∙ ap (λ (path : List ℕ). kind (codes "op." ++ path) ∷ []) is
-    ∙ wrong_value op d no_table
-    ∙ ap (found_operation op) (has ∙ ap (λ (k : List ℕ). get_member k T) is)
-
-pub entry_of_operation : (T : Members) (op : Op) (at key inside : List ℕ) (d : Data) (fields : Members)
-    → at ≡ codes "op." → key ≡ key_of op → inside ≡ at ++ key ++ codes "."
-    → Some d ≡ get_member key T → Some fields ≡ as_table d → entry_faults op inside fields ≡ operation_faults T op
-entry_of_operation T op at key inside d fields here is path has is_table =
-    ap (λ (p : List ℕ). entry_faults op p fields)
-    (path ∙ ap (λ (p : List ℕ). p ++ key ++ codes ".") here ∙ ap (λ (k : List ℕ). codes "op." ++ k ++ codes ".") is)
-    ∙ ap (value_of_operation op) (sym (table_from d fields is_table))
-    ∙ ap (found_operation op) (has ∙ ap (λ (k : List ℕ). get_member k T) is)
 
 -- of the table of operations
 abbrev found_operations : Option Data → List Fault

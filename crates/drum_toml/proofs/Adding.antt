@@ -1,9 +1,12 @@
 -- Faults that are added one behind the other.
-use Rattle.std.proofs.Common.{◌≡◌, List, [], ◌∷◌, ◌++◌, refl, ap, sym, ◌∙◌, subst}
-use Rattle.std.proofs.lemmas.List.{append-nil, append_assoc}
+use Rattle.std.proofs.Common.{◌≡◌, List, [], ◌∷◌, ◌++◌, length, refl, ap, sym, ◌∙◌, subst, arith}
+use Rattle.std.proofs.lemmas.List.{append-nil, append_assoc, length-append}
 use Rattle.drum_times.specs.declared.fault.NoteFault.{NoteFault}
+use Rattle.drum_times.specs.declared.fault.NoteFault.TheVariants.{Toml, Memory, Missing, Unknown, Range, Kind, TwoMarks}
+use Rattle.drum_times.specs.declared.fault.NoteFault.TheVariants.{TwoLists}
 use Rattle.drum_toml.specs.AllFaults.{Tells, TellEach, Adds}
 use Rattle.drum_toml.specs.Document.{Fault}
+use Rattle.drum_toml.specs.Refused.{IsFirst}
 
 tell_append : (xs : List NoteFault) (es : List Fault) (ys : List NoteFault) (bs : List Fault) → TellEach xs es
     → TellEach ys bs → TellEach (xs ++ ys) (es ++ bs)
@@ -15,11 +18,6 @@ tell_append (x ∷ xs) (a ∷ es) ys bs first more = (first.0, tell_append xs es
 -- none are added
 pub adds_none : (old : List NoteFault) → Adds old old []
 adds_none old = record { told = []; is = sym (append-nil old); tell = tt }
-
--- one is added
-pub adds_one : (old new : List NoteFault) (told : NoteFault) (fault : Fault) → new ≡ old ++ told ∷ []
-    → Tells told fault → Adds old new (fault ∷ [])
-adds_one old new told fault is tells = record { told = told ∷ []; is = is; tell = (tells, tt) }
 
 -- and more behind them
 pub adds_more : (old between new : List NoteFault) (faults others : List Fault) → Adds old between faults
@@ -56,15 +54,6 @@ one_step old now next left faults others whole so_far steps adds = record {
       ∙ sym (append_assoc so_far.done faults others);
 }
 
--- a step that adds nothing
-pub no_step : (old now : List NoteFault) (left others whole : List Fault) → Left old now left whole
-    → left ≡ others → Left old now others whole
-no_step old now left others whole so_far steps = record {
-  done = so_far.done;
-  adds = so_far.adds;
-  split = so_far.split ∙ ap (λ (xs : List Fault). so_far.done ++ xs) steps;
-}
-
 pub finished : (old now : List NoteFault) (left whole : List Fault) → Left old now left whole → left ≡ []
     → Adds old now whole
 finished old now left whole so_far nothing =
@@ -73,3 +62,58 @@ finished old now left whole so_far nothing =
 
 pub begun_at : (old : List NoteFault) (left whole : List Fault) → left ≡ whole → Left old old left whole
 begun_at old left whole same = record { done = []; adds = adds_none old; split = sym same }
+
+-- what states the first of some faults is their first
+states_first : (told : NoteFault) (one : Fault) (faults : List Fault) → Tells told one → IsFirst (one ∷ faults) told
+states_first Toml one faults tells = absurd tells
+states_first Memory one faults tells = tt
+states_first (Missing path) one faults tells = (faults, ap (λ (x : Fault). x ∷ faults) tells)
+states_first (Unknown path) one faults tells = (faults, ap (λ (x : Fault). x ∷ faults) tells)
+states_first (Range path) one faults tells = (faults, ap (λ (x : Fault). x ∷ faults) tells)
+states_first (Kind path) one faults tells = (faults, ap (λ (x : Fault). x ∷ faults) tells)
+states_first (TwoMarks from onto) one faults tells = (faults, ap (λ (x : Fault). x ∷ faults) tells)
+states_first (TwoLists location) one faults tells = (faults, ap (λ (x : Fault). x ∷ faults) tells)
+
+first_of : (told : NoteFault) (others : List NoteFault) (faults : List Fault) → TellEach (told ∷ others) faults
+    → IsFirst faults told
+first_of told others [] each = absurd each
+first_of told others (one ∷ faults) each = states_first told one faults each.0
+
+pub none_of : (faults : List Fault) → TellEach [] faults → faults ≡ []
+none_of [] each = refl
+none_of (one ∷ faults) each = absurd each
+
+-- where faults are all that there is, the first of them is the first, and where there is none there are none
+told_all : (old new told : List NoteFault) → old ≡ [] → new ≡ old ++ told → told ≡ new
+told_all old new told empty is = sym (is ∙ ap (λ (xs : List NoteFault). xs ++ told) empty)
+
+pub first_added : (old new : List NoteFault) (faults : List Fault) (fault : NoteFault) → old ≡ []
+    → (others : List NoteFault) × (new ≡ fault ∷ others) → Adds old new faults → IsFirst faults fault
+first_added old new faults fault empty (others, is) adds =
+    first_of fault others faults
+    (subst (λ (told : List NoteFault). TellEach told faults) (told_all old new adds.told empty adds.is ∙ is) adds.tell)
+
+pub none_added : (old new : List NoteFault) (faults : List Fault) → old ≡ [] → new ≡ [] → Adds old new faults
+    → faults ≡ []
+none_added old new faults empty is adds =
+    none_of faults
+    (subst (λ (told : List NoteFault). TellEach told faults) (told_all old new adds.told empty adds.is ∙ is) adds.tell)
+
+-- as many as before are none more, and others than as many are some more
+pub none_more : (old new : List NoteFault) (faults : List Fault) → length new ≡ length old → Adds old new faults
+    → faults ≡ []
+none_more old new faults same adds = go adds.told faults adds.tell
+    (omega (arith, same, ap (λ (xs : List NoteFault). length xs) adds.is, length-append old adds.told))
+  where
+    go : (told : List NoteFault) (faults : List Fault) → TellEach told faults → length told ≡ 0 → faults ≡ []
+    go [] faults each none = none_of faults each
+    go (one ∷ told) faults each none = absurd (omega (arith, none))
+
+pub some_more : (old new : List NoteFault) (faults : List Fault) → (length new ≡ length old → ⊥) → Adds old new faults
+    → faults ≡ [] → ⊥
+some_more old new faults other adds none = go adds.told adds.is
+    (subst (λ (all : List Fault). TellEach adds.told all) none adds.tell)
+  where
+    go : (told : List NoteFault) → new ≡ old ++ told → TellEach told [] → ⊥
+    go [] is each = other (ap (λ (xs : List NoteFault). length xs) (is ∙ append-nil old))
+    go (one ∷ told) is each = absurd each

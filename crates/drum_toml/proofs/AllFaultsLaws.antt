@@ -16,6 +16,7 @@ use Rattle.drum_toml.specs.Document.{elements_faults, number_at}
 use Rattle.drum_toml.specs.NotesDocument as said
 use Rattle.drum_toml.specs.Refused.{Begin, IsDocument, IsRefused}
 use Rattle.drum_toml.specs.TimesDocument.{HasNumber, IsTimes, times_faults}
+use Rattle.drum_toml.proofs.Adding.{none_of}
 use Rattle.drum_toml.proofs.Faultless.{said_of, value_there, location_there, each_none}
 use Rattle.drum_toml.proofs.NotesLaws.{number_is}
 use Rattle.drum_toml.proofs.Sequences.{none_before, none_behind}
@@ -51,16 +52,12 @@ first_told whole mine bytes fault others alike all = elim all [
       refused_by mine bytes each.0 fault begin.0 each.1 (alike each.0 begin.0 begin.1) begin.2
 ]
 
-none_told : (faults : List Fault) → TellEach [] faults → faults ≡ []
-none_told [] each = refl
-none_told (one ∷ faults) each = absurd each
-
 -- where nothing is stated, there is no fault
 pub nothing_told : (whole : Members → List Fault) (bytes : List ℕ) → AreAllFaults whole bytes [] → (D : Members)
     × IsDocument bytes D × (whole D ≡ [])
 nothing_told whole bytes all = elim all [
   | inl none ↦ cc (none.1)
-  | inr each ↦ (each.0, each.1, none_told (whole each.0) each.2)
+  | inr each ↦ (each.0, each.1, none_of (whole each.0) each.2)
 ]
 
 pub first_of_times : (bytes : List ℕ) (fault : NoteFault) (others : List NoteFault)

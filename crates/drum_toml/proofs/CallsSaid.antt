@@ -1,20 +1,46 @@
 -- The table of a document says a call exactly where it has no fault.
-use Rattle.std.proofs.Common.{◌≡◌, ℕ, ◌+◌, ◌-◌, Bool, true, false, ◌&&◌, List, [], ◌∷◌, take, Option}
-use Rattle.std.proofs.Common.{refl, ap, ◌∙◌, subst, arith}
+use Rattle.std.proofs.Common.{◌≡◌, ℕ, ◌+◌, ◌-◌, Bool, true, false, ◌&&◌, List, [], ◌∷◌, ◌++◌, take, Option, Some}
+use Rattle.std.proofs.Common.{cond, refl, ap, sym, ◌∙◌, subst, arith}
 use Rattle.std.proofs.lemmas.Bool.{and_parts}
-use Rattle.std.specs.Prelude.{codes, not}
+use Rattle.std.specs.Prelude.{codes, not, pos}
 use Rattle.drum_core.specs.Location.{is_location}
 use Rattle.drum_times.specs.declared.notes.call.Call.{Call}
 use Rattle.drum_toml.specs.Calls.{IsCall, Opening, call_checks, call_faults, call_keys, exit_faults, is_new_exit, is_opened}
-use Rattle.drum_toml.specs.Calls.{opening_in, openings_in}
-use Rattle.drum_toml.proofs.CallChecks.{new_call, new_exit_right}
+use Rattle.drum_toml.specs.Calls.{opening_in, opening_of, openings_in}
+use Rattle.drum_toml.specs.Document.{number_faults, range}
+use Rattle.drum_toml.specs.TimesDocument.{HasNumber}
+use Rattle.drum_toml.proofs.Added.{key_some}
 use Rattle.drum_toml.proofs.CallsSound.{opening_is}
 use Rattle.drum_toml.proofs.Faultless.{each_none, number_there, value_there}
 use Rattle.drum_toml.proofs.NotesFaultless.{is_location_of, place_there}
 use Rattle.drum_toml.proofs.NotesFaults.{is_location_true, location_is_right, none_in}
 use Rattle.drum_toml.proofs.Sequences.{known_anywhere}
 use Rattle.drum_toml.proofs.TimesSaid.{there}
-use Rattle.toml.specs.Data.{Members}
+use Rattle.toml.specs.Data.{integer, Members}
+
+-- an exit that is new has no fault
+pub new_exit_right : (earlier : List (Option Opening)) (at : List ℕ) (fields : Members) (n : ℕ)
+    → HasNumber fields (codes "exit") n → is_new_exit earlier fields n ≡ true
+    → exit_faults earlier at (codes "exit") fields ≡ []
+new_exit_right earlier at fields n has new =
+    key_some (λ path value. number_faults path (is_new_exit earlier fields) value) at (codes "exit") fields
+    (integer (pos n)) (sym has)
+    ∙ ap (λ (b : Bool). cond b [] (range (at ++ codes "exit") ∷ [])) new
+
+-- and its call opens what no earlier one opens
+not_true : (b c : Bool) → (c && not b) ≡ true → b ≡ false
+not_true true true is = cc
+not_true true false is = cc
+not_true false c is = refl
+
+pub new_call : (document fields : Members) (place : ℕ) (call : Call)
+    → HasNumber fields (codes "from") call.edge.from.number → HasNumber fields (codes "to") call.edge.onto.number
+    → HasNumber fields (codes "exit") call.exit.number
+    → is_new_exit (take place (openings_in document)) fields call.exit.number ≡ true
+    → is_opened (take place (openings_in document)) (Some (opening_of call)) ≡ false
+new_call document fields place call from onto exit new =
+    ap (is_opened (take place (openings_in document))) (sym (opening_is fields call from onto exit))
+    ∙ not_true (is_opened (take place (openings_in document)) (opening_in fields)) (is_location call.exit.number) new
 
 both_true : {a b : Bool} → a ≡ true → b ≡ false → (a && not b) ≡ true
 both_true {a} {b} p q = ap (λ (c : Bool). c && not b) p ∙ ap (λ (c : Bool). not c) q

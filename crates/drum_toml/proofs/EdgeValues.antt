@@ -3,15 +3,13 @@ use Rattle.std.proofs.Common.{◌≡◌, ℕ, ◌+◌, ◌<◌, Bool, true, cond
 use Rattle.std.proofs.Common.{sym, ◌∙◌, subst, append-nil, arith}
 use Rattle.std.specs.Prelude.{codes, decimal}
 use Rattle.drum_core.specs.Location.{is_location}
-use Rattle.drum_times.specs.declared.fault.NoteFault.{NoteFault}
-use Rattle.drum_toml.specs.Document.{Fault, range, number_faults, at_key, is_count}
-use Rattle.drum_toml.specs.LongNotes.{edge_value_faults, edges_faults, listed_edge_faults, AreEdges}
-use Rattle.drum_toml.specs.Refused.{IsFirst}
-use Rattle.drum_toml.proofs.Sequences.{first_before}
+use Rattle.drum_toml.specs.Document.{range, number_faults, at_key, is_count}
+use Rattle.drum_toml.specs.LongNotes.{edge_value_faults, edges_faults, listed_edge_faults, AreEdges, HasEdges, IsEdgeValue}
 use Rattle.drum_toml.proofs.Added.{key_some}
+use Rattle.drum_toml.proofs.LongSaid.{edges_counted}
 use Rattle.drum_toml.proofs.TablesFaults.{array_from, count_seen}
 use Rattle.toml.proofs.Views.{items_view-drop}
-use Rattle.toml.specs.Data.{Data, array, as_array, Members, get_member}
+use Rattle.toml.specs.Data.{Data, array, as_array, Items, item, Members, get_member}
 use Rattle.toml.specs.View.{view, items_view}
 use Rattle.toml.specs.declared.value.Value.{Value}
 
@@ -49,25 +47,6 @@ pub edge_value_two : (path : List ℕ) (d : Data) (vs : List Value) (from onto :
 edge_value_two path d vs from onto is_array many is_from is_onto =
     ap (edge_value_faults path) (array_from d (items_view vs) (sym is_array)) ∙ two path vs from onto many is_from is_onto
 
--- and the first of the first value's is the first
-pub edge_first : (path : List ℕ) (d : Data) (vs : List Value) (from : Value) (fault : NoteFault)
-    → Some (items_view vs) ≡ as_array d → length vs ≡ 2 → from ≡ get_or vs 0 from
-    → IsFirst (number_faults (path ++ codes ".1") is_location (view from)) fault
-    → IsFirst (edge_value_faults path d) fault
-edge_first path d vs from fault is_array many is first =
-    subst (λ (value : Data). IsFirst (edge_value_faults path value) fault) (sym (array_from d (items_view vs) (sym is_array)))
-    (go vs many is)
-  where
-    go : (vs : List Value) → length vs ≡ 2 → from ≡ get_or vs 0 from
-        → IsFirst (edge_value_faults path (array (items_view vs))) fault
-    go [] many is = absurd (omega (arith, many))
-    go (a ∷ []) many is = absurd (omega (arith, many))
-    go (a ∷ b ∷ []) many is =
-        first_before (number_faults (path ++ codes ".1") is_location (view a))
-        (number_faults (path ++ codes ".2") is_location (view b)) fault
-        (subst (λ (v : Value). IsFirst (number_faults (path ++ codes ".1") is_location (view v)) fault) is first)
-    go (a ∷ b ∷ c ∷ more) many is = absurd (omega (arith, many))
-
 -- the faults of the value at a place, and of those behind it
 pub edges_left : (path : List ℕ) (vs : List Value) (place : ℕ) (v : Value) → place < length vs → v ≡ get_or vs place v
     → listed_edge_faults path (place + 1) (items_view (drop place vs))
@@ -78,15 +57,22 @@ edges_left path vs place v within is =
     ∙ ap (λ (w : Value). edge_value_faults (path ++ codes "." ++ decimal (place + 1)) (view w)
     ++ listed_edge_faults path (place + 1 + 1) (items_view (drop (place + 1) vs))) (sym is)
 
-pub wrong_edge : (path at : List ℕ) (vs : List Value) (place : ℕ) (v : Value) (all : List Fault) (fault : NoteFault)
-    → place < length vs → v ≡ get_or vs place v → at ≡ path ++ codes "." ++ decimal (place + 1)
-    → listed_edge_faults path (place + 1) (items_view (drop place vs)) ≡ all
-    → IsFirst (edge_value_faults at (view v)) fault → IsFirst all fault
-wrong_edge path at vs place v all fault within is here same first =
-    subst (λ (xs : List Fault). IsFirst xs fault) (sym (edges_left path vs place v within is) ∙ same)
-    (first_before (edge_value_faults (path ++ codes "." ++ decimal (place + 1)) (view v))
-    (listed_edge_faults path (place + 1 + 1) (items_view (drop (place + 1) vs))) fault
-    (subst (λ (p : List ℕ). IsFirst (edge_value_faults p (view v)) fault) here first))
+-- where the values from a place on are edges, so is the one there, and so are those behind it
+split_edges : (value : Data) (items : Items) (edges : List (ℕ × ℕ)) → AreEdges (item value items) edges
+    → ((edge : ℕ × ℕ) × IsEdgeValue edge value) × ((more : List (ℕ × ℕ)) × AreEdges items more)
+split_edges value items [] are = absurd are
+split_edges value items (edge ∷ more) are = ((edge, are.0), (more, are.1))
+
+pub next_edge : (vs : List Value) (place : ℕ) (v : Value) → place < length vs → v ≡ get_or vs place v
+    → (edges : List (ℕ × ℕ)) × AreEdges (items_view (drop place vs)) edges
+    → ((edge : ℕ × ℕ) × IsEdgeValue edge (view v))
+    × ((more : List (ℕ × ℕ)) × AreEdges (items_view (drop (place + 1) vs)) more)
+next_edge vs place v within is (edges, are) =
+    let here : items_view (drop place vs) ≡ item (view v) (items_view (drop (place + 1) vs)) =
+    items_view-drop vs place v within
+    ∙ ap (λ (w : Value). item (view w) (items_view (drop (place + 1) vs))) (sym is) in
+    split_edges (view v) (items_view (drop (place + 1) vs)) edges
+    (subst (λ (items : Items). AreEdges items edges) here are)
 
 -- where nothing is left, what is there says what all say
 pub edges_all : (vs : List Value) (place : ℕ) (edges : List (ℕ × ℕ)) → drop place vs ≡ []
@@ -117,3 +103,15 @@ edges_read at key fields d vs vs' path fits has is_array is fine same same_items
     ∙ ap (λ (b : Bool). cond b (listed_edge_faults (at ++ key) 1 (items_view vs)) (range (at ++ key) ∷ [])) fine
     ∙ ap (λ (p : List ℕ). listed_edge_faults p 1 (items_view vs)) (sym same)
     ∙ ap (λ (ws : List Value). listed_edge_faults path 1 (items_view ws)) (sym same_items)
+
+-- the values of an array at the key are a mark's edges where some are, and there are no more of them
+pub has_edges : (fields : Members) (d : Data) (vs vs' : List Value) (some edges : List (ℕ × ℕ))
+    → Some d ≡ get_member (codes "edges") fields → Some (items_view vs) ≡ as_array d → vs' ≡ vs
+    → HasEdges true fields some → AreEdges (items_view vs') edges → HasEdges true fields edges
+has_edges fields d vs vs' some edges has is_array same (items, is, are_some, few) are =
+    let whole : Some (array (items_view vs)) ≡ Some (array items) =
+    sym (ap Some (array_from d (items_view vs) (sym is_array))) ∙ has ∙ is in
+    let all : items_view vs ≡ items = cc in
+    let mine : AreEdges items edges =
+    subst (λ (its : Items). AreEdges its edges) (ap items_view same ∙ all) are in
+    (items, is, mine, omega (arith, few, edges_counted items some are_some, edges_counted items edges mine))

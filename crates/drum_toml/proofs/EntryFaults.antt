@@ -1,19 +1,14 @@
--- The faults of an entry, one check after the other.
+-- What is right in an entry has no fault.
 use Rattle.std.proofs.Common.{◌≡◌, ℕ, ◌≤◌, Bool, true, cond, List, [], ◌∷◌, ◌++◌, map, Option, Some, None, refl, ap}
-use Rattle.std.proofs.Common.{◌∙◌, subst, le-leb, arith}
+use Rattle.std.proofs.Common.{◌∙◌, le-leb, arith}
 use Rattle.std.specs.Prelude.{codes, ◌&&◌, nat_le}
 use Rattle.drum_core.specs.declared.op.Op.{Op}
 use Rattle.drum_core.specs.declared.parity.Parity.{Parity}
 use Rattle.drum_core.specs.declared.parity.Parity.TheVariants.{Any, Even, Odd}
-use Rattle.drum_times.specs.declared.fault.NoteFault.{NoteFault}
-use Rattle.drum_toml.specs.declared.times.read_entry.Form.{Form}
-use Rattle.drum_toml.specs.declared.times.read_entry.Form.TheVariants.{Plain, Units, Waits}
-use Rattle.drum_toml.specs.Document.{Fault, unknown_in, missing_in, whole, text, number_at, number_faults, text_faults}
+use Rattle.drum_toml.specs.Document.{Fault, unknown_in, missing_in, whole, text, number_faults, text_faults}
 use Rattle.drum_toml.specs.Document.{range, is_one_of}
-use Rattle.drum_toml.specs.Refused.{IsFirst}
-use Rattle.drum_toml.specs.TimesDocument.{HasNumber, keys_of, form_of, longest, text_of, plain_faults, rest_faults}
-use Rattle.drum_toml.specs.TimesDocument.{entry_faults}
-use Rattle.drum_toml.proofs.Sequences.{first_before, first_behind, first_there, no_faults}
+use Rattle.drum_toml.specs.TimesDocument.{HasNumber, keys_of, form_of, longest, text_of, plain_faults}
+use Rattle.drum_toml.proofs.Sequences.{no_faults}
 use Rattle.toml.specs.Data.{Data, Members, get_member, string}
 
 -- a number within its range has no fault
@@ -31,7 +26,7 @@ text_is_right at key fields texts one has among =
     ap (λ (found : Option Data). elim found [ None ↦ [] | Some value ↦ text_faults (at ++ key) texts value ]) has
     ∙ ap (λ (b : Bool). cond b [] (range (at ++ key) ∷ [])) among
 
-parity_is_right : (at : List ℕ) (fields : Members) (parity : Parity)
+pub parity_is_right : (at : List ℕ) (fields : Members) (parity : Parity)
     → get_member (codes "parity") fields ≡ Some (string (text_of parity))
     → text (map text_of (Any ∷ Even ∷ Odd ∷ [])) at (codes "parity") fields ≡ []
 parity_is_right at fields Any has =
@@ -50,27 +45,6 @@ after_faults at fields = whole 0 longest at (codes "after") fields
 abbrev parity_faults : List ℕ → Members → List Fault
 parity_faults at fields = text (map text_of (Any ∷ Even ∷ Odd ∷ [])) at (codes "parity") fields
 
-abbrev pub Present : List ℕ → Members → Type 0
-Present at fields = missing_in at (keys_of Plain) fields ≡ []
-
-pub wrong_before : (at : List ℕ) (fields : Members) (fault : NoteFault) → Present at fields
-    → IsFirst (missing_in at (codes "before" ∷ []) fields ++ whole 1 longest at (codes "before") fields) fault
-    → IsFirst (plain_faults at fields) fault
-wrong_before at fields fault present first =
-    first_before (before_faults at fields ++ after_faults at fields) (parity_faults at fields) fault
-    (first_before (before_faults at fields) (after_faults at fields) fault
-    (first_there at (keys_of Plain) fields (codes "before") (before_faults at fields) fault present refl first))
-
-pub wrong_after : (at : List ℕ) (fields : Members) (fault : NoteFault) (before : ℕ) → Present at fields
-    → HasNumber fields (codes "before") before → 1 ≤ before → before ≤ longest
-    → IsFirst (missing_in at (codes "after" ∷ []) fields ++ whole 0 longest at (codes "after") fields) fault
-    → IsFirst (plain_faults at fields) fault
-wrong_after at fields fault before present has low high first =
-    first_before (before_faults at fields ++ after_faults at fields) (parity_faults at fields) fault
-    (first_behind (before_faults at fields) (after_faults at fields) fault
-    (number_is_right at (codes "before") fields 1 longest before has low high)
-    (first_there at (keys_of Plain) fields (codes "after") (after_faults at fields) fault present refl first))
-
 pub plain_is_right : (at : List ℕ) (fields : Members) (before after : ℕ) (parity : Parity)
     → HasNumber fields (codes "before") before → 1 ≤ before → before ≤ longest
     → HasNumber fields (codes "after") after → after ≤ longest
@@ -82,54 +56,8 @@ plain_is_right at fields before after parity has low high has_after high_after h
     (number_is_right at (codes "after") fields 0 longest after has_after (omega arith) high_after))
     (parity_is_right at fields parity has_parity)
 
-abbrev wait_min_faults : List ℕ → Members → List Fault
-wait_min_faults at fields = whole 0 longest at (codes "wait_min") fields
-
-pub wrong_wait_min : (at : List ℕ) (fields : Members) (fault : NoteFault) (form : Form) → form ≡ Waits
-    → missing_in at (keys_of form) fields ≡ []
-    → IsFirst (missing_in at (codes "wait_min" ∷ []) fields ++ whole 0 longest at (codes "wait_min") fields) fault
-    → IsFirst (rest_faults form at fields) fault
-wrong_wait_min at fields fault Plain is present first = cc
-wrong_wait_min at fields fault Units is present first = cc
-wrong_wait_min at fields fault Waits is present first =
-    first_before (wait_min_faults at fields)
-    (whole (number_at (codes "wait_min") fields) longest at (codes "wait_max") fields) fault
-    (first_there at (keys_of Waits) fields (codes "wait_min") (wait_min_faults at fields) fault present refl first)
-
 abbrev pub unknown_of : Op → List ℕ → Members → List Fault
 unknown_of op at fields = unknown_in at (keys_of (form_of op)) fields
 
 abbrev pub missing_of : Op → List ℕ → Members → List Fault
 missing_of op at fields = missing_in at (keys_of (form_of op)) fields
-
-pub wrong_keys : (at : List ℕ) (fields : Members) (fault : NoteFault) (op : Op) (keys : List (List ℕ))
-    → keys ≡ keys_of (form_of op) → IsFirst (unknown_in at keys fields) fault
-    → IsFirst (entry_faults op at fields) fault
-wrong_keys at fields fault op keys are first =
-    first_before (unknown_of op at fields ++ missing_of op at fields ++ plain_faults at fields)
-    (rest_faults (form_of op) at fields) fault
-    (first_before (unknown_of op at fields ++ missing_of op at fields) (plain_faults at fields) fault
-    (first_before (unknown_of op at fields) (missing_of op at fields) fault
-    (subst (λ (ks : List (List ℕ)). IsFirst (unknown_in at ks fields) fault) are first)))
-
-pub lacks_keys : (at : List ℕ) (fields : Members) (fault : NoteFault) (op : Op) (keys : List (List ℕ))
-    → keys ≡ keys_of (form_of op) → unknown_in at keys fields ≡ []
-    → IsFirst (missing_in at keys fields) fault → IsFirst (entry_faults op at fields) fault
-lacks_keys at fields fault op keys are known first =
-    first_before (unknown_of op at fields ++ missing_of op at fields ++ plain_faults at fields)
-    (rest_faults (form_of op) at fields) fault
-    (first_before (unknown_of op at fields ++ missing_of op at fields) (plain_faults at fields) fault
-    (first_behind (unknown_of op at fields) (missing_of op at fields) fault
-    (subst (λ (ks : List (List ℕ)). unknown_in at ks fields ≡ []) are known)
-    (subst (λ (ks : List (List ℕ)). IsFirst (missing_in at ks fields) fault) are first)))
-
-pub wrong_plain : (at : List ℕ) (fields : Members) (fault : NoteFault) (op : Op) (keys : List (List ℕ))
-    → keys ≡ keys_of (form_of op) → unknown_in at keys fields ≡ [] → missing_in at keys fields ≡ []
-    → IsFirst (plain_faults at fields) fault → IsFirst (entry_faults op at fields) fault
-wrong_plain at fields fault op keys are known there first =
-    first_before (unknown_of op at fields ++ missing_of op at fields ++ plain_faults at fields)
-    (rest_faults (form_of op) at fields) fault
-    (first_behind (unknown_of op at fields ++ missing_of op at fields) (plain_faults at fields) fault
-    (no_faults (unknown_of op at fields) (missing_of op at fields)
-    (subst (λ (ks : List (List ℕ)). unknown_in at ks fields ≡ []) are known)
-    (subst (λ (ks : List (List ℕ)). missing_in at ks fields ≡ []) are there)) first)

@@ -1,14 +1,12 @@
 mod Added
 mod Adding
 mod AllFaultsLaws
-mod CallChecks
 mod CallsSaid
 mod CallsSound
 mod Choices
 mod EdgeValues
 mod EntryFaults
 mod Faultless
-mod LongChecks
 mod LongFaultless
 mod LongFaults
 mod LongMarks
@@ -23,6 +21,6 @@ mod NotesSound
 mod Repeating
 pub mod Sequences
 mod TablesFaults
+mod TimesEntries
 mod TimesFaultless
-mod TimesFaults
 mod TimesSaid

@@ -1,30 +1,38 @@
 -- A document without a fault says long notes.
 use Rattle.std.proofs.Common.{◌≡◌, ℕ, zero, suc, ◌+◌, ◌-◌, ◌<◌, ◌≤◌, Bool, true, false, ◌||◌, ◌&&◌, cond, List, [], ◌∷◌, ◌++◌}
-use Rattle.std.proofs.Common.{take, Option, Some, None, is_some, refl, ap, sym, ◌∙◌, subst, inl, inr, arith}
+use Rattle.std.proofs.Common.{map, take, Option, Some, None, is_some, refl, ap, sym, ◌∙◌, subst, inl, inr, arith}
 use Rattle.std.proofs.lemmas.Bool.{and_parts, leb-true}
-use Rattle.std.specs.Prelude.{codes, decimal, flat_map, nat_le, not, pos, slice_get}
+use Rattle.std.specs.Prelude.{IfSome, IsTrue, codes, decimal, flat_map, nat_le, not, pos, slice_get}
 use Rattle.drum_core.specs.declared.location.Location.{Location}
 use Rattle.drum_core.specs.Location.{is_location}
+use Rattle.drum_times.specs.declared.notes.call.Call.{Call}
+use Rattle.drum_times.specs.declared.notes.listing.Listing.{Listing}
 use Rattle.drum_times.specs.declared.notes.mark.Mark.{Mark}
+use Rattle.drum_times.specs.declared.notes.programmed.Programmed.{Programmed}
 use Rattle.drum_times.specs.declared.notes.programmed.Programmed.TheVariants.{Stop, Run, Any}
-use Rattle.drum_times.specs.Allowed.{Notes}
+use Rattle.drum_times.specs.Allowed.{AreSound, Notes}
+use Rattle.drum_times.specs.Listed.{listed, notes_of}
 use Rattle.drum_times.specs.Marks.{edges_of}
 use Rattle.drum_times.specs.Names.{is_name}
+use Rattle.drum_toml.specs.declared.notes.long_mark.LongMark.{LongMark}
 use Rattle.drum_toml.specs.Calls.{IsCall, call_faults}
 use Rattle.drum_toml.specs.Document.{range, at_key, count_of, is_count, is_one_of, missing_in}
 use Rattle.drum_toml.specs.LongNotes.{AreEdges, HasEdges, HasName, IsEdgeValue, IsLongMark, IsLongNotes, StandsIn}
 use Rattle.drum_toml.specs.LongNotes.{edge_checks, edge_value_faults, edges_faults, is_name_of, is_named, listed_edge_faults}
 use Rattle.drum_toml.specs.LongNotes.{lists_edges, long_mark_checks, long_mark_faults, long_mark_keys, long_notes_checks}
-use Rattle.drum_toml.specs.LongNotes.{long_notes_faults, name_faults, names_in, outer_faults, wanted_keys}
+use Rattle.drum_toml.specs.LongNotes.{long_notes_faults, name_faults, name_in, names_in, outer_faults, text_in}
+use Rattle.drum_toml.specs.LongNotes.{wanted_keys}
 use Rattle.drum_toml.specs.NotesDocument as said
 use Rattle.drum_toml.proofs.Added.{key_some}
 use Rattle.drum_toml.proofs.CallsSaid.{call_said}
 use Rattle.drum_toml.proofs.CallsSound.{own_exits}
 use Rattle.drum_toml.proofs.Faultless.{each_none, number_said, text_there, value_there, whole_there}
 use Rattle.drum_toml.proofs.LongSaid.{edges_counted}
-use Rattle.drum_toml.proofs.LongSound.{long_edges_same, long_nested}
+use Rattle.drum_toml.proofs.LongSound.{long_edges_same, long_nested, long_said, mark_in, sound_marks}
 use Rattle.drum_toml.proofs.Naming.{is_that}
 use Rattle.drum_toml.proofs.NotesFaultless.{array_said, fine_patterns, fine_places, is_location_of, list_said, place_there}
+use Rattle.drum_toml.proofs.NotesFaultless.{tables_counted}
+use Rattle.drum_toml.proofs.NotesLaws.{locations_same}
 use Rattle.drum_toml.proofs.NotesSaid.{IsFine, places_same}
 use Rattle.drum_toml.proofs.NotesSound.{few_found, own_edges, own_locations}
 use Rattle.drum_toml.proofs.Sequences.{known_anywhere, none_before, none_behind}
@@ -82,7 +90,7 @@ several_said path (item value items) some none =
       are = (first.1, more.1);
     }
 
-record EdgesSaid (listed : Bool) (fields : Members) : Type 0 where
+pub record EdgesSaid (listed : Bool) (fields : Members) : Type 0 where
   pub from : Location
   pub onto : Location
   pub others : List (ℕ × ℕ)
@@ -120,7 +128,7 @@ array_of_edges fields path (boolean b) has none = cc
 array_of_edges fields path (datetime d) has none = cc
 array_of_edges fields path (table _) has none = cc
 
-edges_there : (listed : Bool) (at : List ℕ) (fields : Members) → listed ≡ lists_edges fields
+pub edges_there : (listed : Bool) (at : List ℕ) (fields : Members) → listed ≡ lists_edges fields
     → missing_in at (wanted_keys listed) fields ≡ [] → edge_checks listed at fields ≡ [] → EdgesSaid listed fields
 edges_there true at fields is there none = go (get_member (codes "edges") fields) refl is
   where
@@ -247,7 +255,7 @@ name_there names place at fields none = go (get_member (codes "name") fields) re
     go (Some value) e =
         said value e (sym (key_some (name_faults names place) at (codes "name") fields value (sym e)) ∙ none)
 
-long_mark_said : (document : Members) (place : ℕ) (at : List ℕ) (fields : Members)
+pub long_mark_said : (document : Members) (place : ℕ) (at : List ℕ) (fields : Members)
     → long_mark_faults document (place + 1) at fields ≡ [] → (mark : Mark)
     × IsLongMark document place fields mark × Unit {0}
 long_mark_said document place at fields none =
@@ -319,3 +327,38 @@ long_notes_said D none =
         };
       },
     )
+
+-- the name that a table says is the one that its mark has
+pub name_of : (names : List (Option (List ℕ))) (place : ℕ) (fields : Members) (name : Option (List ℕ))
+    → HasName names place fields name → name_in (Some fields) ≡ name
+name_of names place fields None has = ap text_in has
+name_of names place fields (Some name) has = ap text_in has.0
+
+-- and it is proper
+pub proper_name : (names : List (Option (List ℕ))) (place : ℕ) (fields : Members) (name : Option (List ℕ))
+    → HasName names place fields name → IfSome (name_in (Some fields)) (λ (text : List ℕ). IsTrue (is_name text))
+proper_name names place fields None has =
+    subst (λ (one : Option (List ℕ)). IfSome one (λ (text : List ℕ). IsTrue (is_name text)))
+    (sym (name_of names place fields None has)) tt
+proper_name names place fields (Some name) has =
+    subst (λ (one : Option (List ℕ)). IfSome one (λ (text : List ℕ). IsTrue (is_name text)))
+    (sym (name_of names place fields (Some name) has)) has.1
+
+-- where a document has no fault, the notes of what it says are sound
+pub long_sound : (D : Members) (programmed : Programmed) (load_cards : Bool) (longs : List LongMark) (marks : List Mark)
+    (lists : List Listing) (calls : List Call) → long_notes_faults D ≡ []
+    → said.HasTables (λ index fields one. IsLongMark D index fields one.mark) D (codes "mark") longs
+    → marks ≡ map mark_in longs
+    → said.HasTables (λ _ fields list. said.IsListed fields (listed list)) D (codes "list") lists
+    → said.HasTables (IsCall D) D (codes "call") calls → AreSound (notes_of programmed load_cards marks lists calls)
+long_sound D programmed load_cards longs marks lists calls none has_marks are has_lists has_calls =
+    let each = each_none (long_notes_checks D) none in
+    sound_marks D programmed load_cards longs marks lists has_marks
+    (λ some. tables_counted (λ index fields one. IsLongMark D index fields one.mark) (long_mark_faults D) 0 (Some 64)
+    (codes "mark") (get_member (codes "mark") D) longs each.1.1.1.1.0 has_marks some) are
+    (ap (said.edge_faults []) (ap (flat_map edges_of) are
+    ∙ sym (long_edges_same D D (map mark_in longs) (long_said D D longs has_marks))) ∙ each.1.1.1.1.1.1.1.0)
+    (ap (said.location_faults []) (sym (locations_same D lists has_lists)) ∙ each.1.1.1.1.1.1.1.1.0)
+    calls has_calls
+    (λ some. tables_counted (IsCall D) (call_faults D) 0 (Some 64) (codes "call") (get_member (codes "call") D) calls
+    each.1.1.1.1.1.1.0 has_calls some)

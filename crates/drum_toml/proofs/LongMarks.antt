@@ -1,11 +1,12 @@
 -- What is wrong with the outer mark and the name of a mark of long notes.
-use Rattle.std.proofs.Common.{◌≡◌, ℕ, Bool, true, false, ◌&&◌, cond, List, [], ◌∷◌, Option, Some, None, refl, ap}
-use Rattle.std.proofs.Common.{◌∙◌, take}
-use Rattle.std.specs.Prelude.{not, nat_le}
+use Rattle.std.proofs.Common.{◌≡◌, ℕ, zero, suc, ◌<◌, Bool, false, ◌&&◌, cond, List, [], ◌∷◌, ◌++◌, Option, Some, None}
+use Rattle.std.proofs.Common.{ap, sym, ◌∙◌, subst, take, inr, arith}
+use Rattle.std.specs.Prelude.{codes, not, slice_get, IfNone, IfSome}
 use Rattle.drum_times.specs.Names.{is_name}
-use Rattle.drum_toml.specs.Document.{range, number_faults}
-use Rattle.drum_toml.specs.LongNotes.{is_named, name_faults, outer_faults}
-use Rattle.toml.specs.Data.{Data, string, integer, float, boolean, datetime, array, table, as_str}
+use Rattle.drum_toml.specs.Document.{at_key, range}
+use Rattle.drum_toml.specs.LongNotes.{StandsIn, is_named, name_faults, outer_faults}
+use Rattle.drum_toml.proofs.Added.{key_some}
+use Rattle.toml.specs.Data.{Data, string, integer, float, boolean, datetime, array, table, as_str, Members, get_member}
 
 -- a value that has a text is that text
 pub text_from : (d : Data) (text : List ℕ) → Some text ≡ as_str d → d ≡ string text
@@ -28,17 +29,6 @@ outer_text names earlier path d text named is same =
     ap (outer_faults names earlier path) (text_from d text is)
     ∙ ap (λ (b : Bool). cond b [] (range path ∷ [])) same
 
--- another value is a number, or nothing of the kind
-pub outer_number : (names : List (Option (List ℕ))) (earlier : ℕ) (path : List ℕ) (d : Data) → None ≡ as_str d
-    → outer_faults names earlier path d ≡ number_faults path (λ n. nat_le 1 n && nat_le n earlier) d
-outer_number names earlier path (string s) is = cc
-outer_number names earlier path (integer z) is = refl
-outer_number names earlier path (float x) is = refl
-outer_number names earlier path (boolean b) is = refl
-outer_number names earlier path (datetime dt) is = refl
-outer_number names earlier path (array items) is = refl
-outer_number names earlier path (table fields) is = refl
-
 -- a text is a name that no earlier mark has, or it isn't
 pub name_text : (names : List (Option (List ℕ))) (earlier : ℕ) (path : List ℕ) (d : Data) (text : List ℕ)
     (proper named : Bool) → Some text ≡ as_str d → is_name text ≡ proper → is_named (take earlier names) text ≡ named
@@ -48,29 +38,30 @@ name_text names earlier path d text proper named is right same =
     ∙ ap (λ (b : Bool). cond (b && not (is_named (take earlier names) text)) [] (range path ∷ [])) right
     ∙ ap (λ (b : Bool). cond (proper && not b) [] (range path ∷ [])) same
 
--- so one that another mark has, or that is none, is out of range
-name_wrong : (names : List (Option (List ℕ))) (earlier : ℕ) (path : List ℕ) (d : Data) (text : List ℕ)
-    (proper named : Bool) → Some text ≡ as_str d → is_name text ≡ proper → is_named (take earlier names) text ≡ named
-    → (proper && not named) ≡ false → name_faults names earlier path d ≡ range path ∷ []
-name_wrong names earlier path d text proper named is right same wrong =
-    name_text names earlier path d text proper named is right same ∙ ap (λ (b : Bool). cond b [] (range path ∷ [])) wrong
+-- a name among the first ones stands at its place among all
+taken_at : (names : List (Option (List ℕ))) (count at : ℕ) (one : Option (List ℕ))
+    → slice_get (take count names) at ≡ Some one → (at < count) × (slice_get names at ≡ Some one)
+taken_at names zero at one is = cc
+taken_at [] (suc count) at one is = cc
+taken_at (name ∷ names) (suc count) zero one is = (omega arith, is)
+taken_at (name ∷ names) (suc count) (suc at) one is =
+    let further = taken_at names count at one is in (omega (arith, further.0), further.1)
 
-pub name_taken : (names : List (Option (List ℕ))) (earlier : ℕ) (path : List ℕ) (d : Data) (text : List ℕ)
-    → Some text ≡ as_str d → is_named (take earlier names) text ≡ true
-    → name_faults names earlier path d ≡ range path ∷ []
-name_taken names earlier path d text is same =
-    name_wrong names earlier path d text (is_name text) true is refl same (none (is_name text))
-  where
-    none : (b : Bool) → (b && not true) ≡ false
-    none true = refl
-    none false = refl
-
-pub name_improper : (names : List (Option (List ℕ))) (earlier : ℕ) (path : List ℕ) (d : Data) (text : List ℕ)
-    → Some text ≡ as_str d → is_name text ≡ false → name_faults names earlier path d ≡ range path ∷ []
-name_improper names earlier path d text is wrong =
-    name_wrong names earlier path d text false (is_named (take earlier names) text) is wrong refl refl
-
-pub name_right : (names : List (Option (List ℕ))) (earlier : ℕ) (path : List ℕ) (d : Data) (text : List ℕ)
-    → Some text ≡ as_str d → is_name text ≡ true → is_named (take earlier names) text ≡ false
-    → name_faults names earlier path d ≡ []
-name_right names earlier path d text is right free = name_text names earlier path d text true false is right free
+-- so where nothing is wrong with the name of an outer mark, the first mark that has it is the outer one
+pub outer_found : (names all : List (Option (List ℕ))) (earlier many : ℕ) (at : List ℕ) (fields : Members) (d : Data)
+    (text : List ℕ) (found : Option ℕ) → all ≡ take earlier names → Some d ≡ get_member (codes "inside") fields
+    → Some text ≡ as_str d → at_key (outer_faults names earlier) at (codes "inside") fields ≡ []
+    → IfNone found (is_named all text ≡ false)
+    → IfSome found (λ (place : ℕ). (place < many) × (slice_get all place ≡ Some (Some text)))
+    → StandsIn names earlier fields found
+outer_found names all earlier many at fields d text None same has is fine none some =
+    let wrong : cond false [] (range (at ++ codes "inside") ∷ []) ≡ [] =
+    sym (key_some (outer_faults names earlier) at (codes "inside") fields d has
+    ∙ outer_text names earlier (at ++ codes "inside") d text false is
+    (subst (λ (some : List (Option (List ℕ))). is_named some text ≡ false) same none))
+    ∙ fine in
+    cc
+outer_found names all earlier many at fields d text (Some place) same has is fine none some =
+    let there = taken_at names earlier place (Some text)
+    (subst (λ (them : List (Option (List ℕ))). slice_get them place ≡ Some (Some text)) same some.1) in
+    (d, sym has, inr (text, text_from d text is, there.1), there.0)

@@ -1,5 +1,5 @@
 -- A document that says long notes has no fault.
-use Rattle.std.proofs.Common.{◌≡◌, ℕ, zero, suc, ◌+◌, ◌<◌, ◌≤◌, Bool, true, false, ◌||◌, ◌&&◌, cond, List, [], ◌∷◌, ◌++◌}
+use Rattle.std.proofs.Common.{◌≡◌, ℕ, zero, suc, ◌+◌, ◌-◌, ◌<◌, ◌≤◌, Bool, true, false, ◌||◌, ◌&&◌, cond, List, [], ◌∷◌, ◌++◌}
 use Rattle.std.proofs.Common.{length, take, Option, Some, None, refl, ap, sym, ◌∙◌, subst, inl, inr, le-leb, arith}
 use Rattle.std.specs.Prelude.{codes, decimal, flat_map, not, pos, slice_get}
 use Rattle.std.proofs.lemmas.Map.Text.{is_eq-slice_cmp}
@@ -12,13 +12,14 @@ use Rattle.drum_toml.specs.Calls.{IsCall, call_faults}
 use Rattle.drum_toml.specs.Document.{range, number_faults, at_key, count_of, is_count, missing_in, location}
 use Rattle.drum_toml.specs.LongNotes.{AreEdges, HasEdges, HasName, IsEdgeValue, IsLongMark, IsLongNotes, IsOuter, StandsIn}
 use Rattle.drum_toml.specs.LongNotes.{edge_checks, edge_value_faults, edges_faults, is_name_of, is_named, listed_edge_faults}
-use Rattle.drum_toml.specs.LongNotes.{lists_edges, long_mark_faults, long_mark_keys, long_notes_checks, long_notes_faults}
+use Rattle.drum_toml.specs.LongNotes.{lists_edges, long_mark_checks, long_mark_faults, long_mark_keys, long_notes_checks}
+use Rattle.drum_toml.specs.LongNotes.{long_notes_faults}
 use Rattle.drum_toml.specs.LongNotes.{name_faults, names_in, outer_faults, wanted_keys}
 use Rattle.drum_toml.specs.NotesDocument as said
 use Rattle.drum_toml.specs.TimesDocument.{HasNumber}
 use Rattle.drum_toml.proofs.Added.{key_none, key_some}
 use Rattle.drum_toml.proofs.CallsSaid.{call_right}
-use Rattle.drum_toml.proofs.LongChecks.{none_wrong}
+use Rattle.drum_toml.proofs.EntryFaults.{number_is_right}
 use Rattle.drum_toml.proofs.LongSound.{long_edges_same}
 use Rattle.drum_toml.proofs.NotesFaults.{either_true, is_location_true, none_in}
 use Rattle.drum_toml.proofs.NotesLaws.{programmed_is_right, load_cards_are_right}
@@ -132,12 +133,30 @@ name_right names place at fields (Some name) (has, proper, free) =
 long_mark_right : (document : Members) (place : ℕ) (at : List ℕ) (fields : Members) (mark : Mark)
     → IsLongMark document place fields mark → long_mark_faults document (place + 1) at fields ≡ []
 long_mark_right document place at fields mark is =
-    none_wrong document fields place at (lists_edges fields) refl
-    (known_anywhere [] at (long_mark_keys (lists_edges fields)) fields is.only)
-    (wanted_there (lists_edges fields) at fields (edges_of mark) mark.most is.edges is.most)
-    (edges_checked (lists_edges fields) at fields mark is.edges) mark.most is.most mark.four_digits
-    (outer_right (names_in document) place at fields mark.inside is.inside)
-    (name_right (names_in document) place at fields mark.name is.name)
+    let listed = lists_edges fields in
+    let names = names_in document in
+    let earlier : place ≡ place + 1 - 1 = omega arith in
+    none_in (long_mark_checks document (place + 1) at fields) (
+      known_anywhere [] at (long_mark_keys listed) fields is.only,
+      (
+        wanted_there listed at fields (edges_of mark) mark.most is.edges is.most,
+        (
+          edges_checked listed at fields mark is.edges,
+          (
+            number_is_right at (codes "most") fields 0 9999 mark.most is.most (omega arith) mark.four_digits,
+            (
+              subst (λ (n : ℕ). at_key (outer_faults names n) at (codes "inside") fields ≡ []) earlier
+                  (outer_right names place at fields mark.inside is.inside),
+              (
+                subst (λ (n : ℕ). at_key (name_faults names n) at (codes "name") fields ≡ []) earlier
+                    (name_right names place at fields mark.name is.name),
+                tt,
+              ),
+            ),
+          ),
+        ),
+      ),
+    )
 
 upto : (n : ℕ) → n ≤ 64 → is_count 0 (Some 64) n ≡ true
 upto n high = rw (le-leb 0 n (omega arith), le-leb n 64 high) refl

@@ -3,7 +3,7 @@ use Rattle.std.proofs.Common.{◌≡◌, ℕ, ◌+◌, ◌-◌, ◌<◌, ◌≤�
 use Rattle.std.proofs.Common.{length, Option, Some, None, refl, ap, sym, ◌∙◌, subst, arith}
 use Rattle.std.proofs.lemmas.Bool.{and_parts, leb-true, ltb-true}
 use Rattle.std.specs.List.{AllByRecursion}
-use Rattle.std.specs.Prelude.{codes, decimal, nat_le, nat_lt, IsTrue, IsSome, flat_map}
+use Rattle.std.specs.Prelude.{codes, decimal, nat_le, nat_lt, IsTrue, IsSome, SomeIff, flat_map}
 use Rattle.drum_core.specs.declared.location.Location.{Location}
 use Rattle.drum_core.specs.Location.{IsLocation, is_location}
 use Rattle.drum_times.specs.declared.notes.mark.Mark.{Mark}
@@ -12,11 +12,11 @@ use Rattle.drum_times.specs.declared.notes.programmed.Programmed.TheVariants.{St
 use Rattle.drum_times.specs.Allowed.{Notes, Listed}
 use Rattle.drum_times.specs.Marks.{edges_of}
 use Rattle.drum_toml.specs.Document.{Fault, is_count, count_of, range, whole, element_faults, elements_faults}
-use Rattle.drum_toml.specs.Document.{array_faults, location}
+use Rattle.drum_toml.specs.Document.{array_faults, location, number_at, number_in}
 use Rattle.drum_toml.specs.NotesDocument as said
 use Rattle.drum_toml.specs.TimesDocument.{HasNumber}
 use Rattle.drum_toml.proofs.Faultless.{said_of, value_there, whole_there, location_there, text_there, each_none}
-use Rattle.drum_toml.proofs.NotesLaws.{number_is, edges_same}
+use Rattle.drum_toml.proofs.NotesLaws.{number_is, edges_same, same_number}
 use Rattle.drum_toml.proofs.NotesSaid.{IsFine, count_same, places_same}
 use Rattle.drum_toml.proofs.NotesSound.{own_edges, own_locations, nested, few_marks}
 use Rattle.drum_toml.proofs.Sequences.{none_before, none_behind, known_anywhere}
@@ -58,7 +58,25 @@ inside_there place at fields none = go (get_member (codes "inside") fields) refl
           ),
         )
 
-mark_said : (place : ℕ) (at : List ℕ) (fields : Members) → said.mark_faults (place + 1) at fields ≡ [] → (mark : Mark)
+-- the outer mark that a table has is the one that its number at the key gives, less one
+pub inside_same : (place : ℕ) (fields : Members) (inside found : Option ℕ) (n : ℕ)
+    → n ≡ number_at (codes "inside") fields → SomeIff found (1 ≤ n) (n - 1) → said.HasInside place fields inside
+    → said.HasInside place fields found
+inside_same place fields None None n is found has = has
+inside_same place fields None (Some k) n is (some, same) has =
+    let zero : n ≡ 0 =
+    is ∙ ap (λ (at : Option Data). elim at [ None ↦ 0 | Some value ↦ number_in value ]) has in
+    absurd (omega (arith, some, zero))
+inside_same place fields (Some outer) None n is found (has, below) =
+    absurd (found (omega (arith, same_number fields (codes "inside") (outer + 1) n is has)))
+inside_same place fields (Some outer) (Some k) n is (some, same) (has, below) =
+    let whole : n ≡ outer + 1 = same_number fields (codes "inside") (outer + 1) n is has in
+    let equal : k ≡ outer = omega (arith, same, whole) in (
+      subst (λ (m : ℕ). HasNumber fields (codes "inside") (m + 1)) (sym equal) has,
+      omega (arith, equal, below),
+    )
+
+pub mark_said : (place : ℕ) (at : List ℕ) (fields : Members) → said.mark_faults (place + 1) at fields ≡ [] → (mark : Mark)
     × said.IsMark place fields mark × Unit {0}
 mark_said place at fields none =
     let keys : List (List ℕ) = codes "from" ∷ codes "to" ∷ codes "most" ∷ [] in
@@ -91,7 +109,7 @@ mark_said place at fields none =
       tt,
     )
 
-pattern_said : (place : ℕ) (at : List ℕ) (fields : Members) → said.pattern_faults (place + 1) at fields ≡ []
+pub pattern_said : (place : ℕ) (at : List ℕ) (fields : Members) → said.pattern_faults (place + 1) at fields ≡ []
     → (pattern : Pattern) × said.IsPattern fields pattern × Unit {0}
 pattern_said place at fields none =
     let each = each_none (said.pattern_checks at fields) none in
@@ -195,6 +213,22 @@ array_said Say Fine check each low high path (Some (float x)) none = cc
 array_said Say Fine check each low high path (Some (boolean b)) none = cc
 array_said Say Fine check each low high path (Some (datetime d)) none = cc
 array_said Say Fine check each low high path (Some (table fields)) none = cc
+
+-- of an array in which nothing is wrong, there are as many values as there may be
+pub tables_counted : {A : Type 0} (Say : ℕ → Members → A → Type 0) (check : ℕ → List ℕ → Members → List Fault) (low : ℕ)
+    (high : Option ℕ) (path : List ℕ) (found : Option Data) (values : List A)
+    → said_of (array_faults low high check path) found ≡ [] → said.AreFound Say found values → IsSome found
+    → is_count low high (length values) ≡ true
+tables_counted Say check low high path None values fine are some = cc
+tables_counted Say check low high path (Some value) values fine (items, is, are) some =
+    go (is_count low high (count_of items)) refl
+    (ap (array_faults low high check path) (sym is) ∙ fine)
+  where
+    go : (fits : Bool) → is_count low high (count_of items) ≡ fits
+        → cond fits (elements_faults check path 1 items) (range path ∷ []) ≡ []
+        → is_count low high (length values) ≡ true
+    go true count no_fault = ap (is_count low high) (sym (count_same Say 0 items values are)) ∙ count
+    go false count no_fault = cc
 
 pub list_said : (place : ℕ) (at : List ℕ) (fields : Members) → said.list_faults (place + 1) at fields ≡ [] → (list : Listed)
     × said.IsListed fields list × IsFine list

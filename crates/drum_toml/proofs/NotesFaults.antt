@@ -1,18 +1,16 @@
 -- The faults of marks, patterns and lists, one check after the other.
 use Rattle.std.proofs.Common.{◌≡◌, ℕ, zero, suc, take, ◌<◌, ◌≤◌, Bool, true, false, ◌||◌, List, [], ◌∷◌, ◌++◌, Option}
-use Rattle.std.proofs.Common.{Some, None, refl, ap, sym, ◌∙◌, subst, arith, le-leb, inl, inr}
+use Rattle.std.proofs.Common.{Some, None, refl, ap, sym, ◌∙◌, subst, le-leb, inl, inr}
 use Rattle.std.proofs.lemmas.Bool.{cases_lt, lt-ltb}
 use Rattle.std.specs.List.{AllByRecursion}
-use Rattle.std.specs.Prelude.{codes, nat_lt, slice_get}
+use Rattle.std.specs.Prelude.{nat_lt, slice_get}
 use Rattle.drum_core.specs.Location.{IsLocation, is_location}
 use Rattle.drum_times.specs.declared.fault.NoteFault.{NoteFault}
-use Rattle.drum_toml.specs.Document.{Fault, in_turn, unknown_in, missing_in, whole, location, number_at, number_in}
+use Rattle.drum_toml.specs.Document.{Fault, in_turn, location}
 use Rattle.drum_toml.specs.Document.{number_faults}
-use Rattle.drum_toml.specs.NotesDocument.{pattern_keys, pattern_checks}
 use Rattle.drum_toml.specs.Refused.{IsFirst}
 use Rattle.drum_toml.specs.TimesDocument.{HasNumber}
-use Rattle.drum_toml.proofs.EntryFaults.{number_is_right}
-use Rattle.drum_toml.proofs.Sequences.{first_before, first_behind, first_there, no_faults}
+use Rattle.drum_toml.proofs.Sequences.{first_before, first_behind, no_faults}
 use Rattle.toml.specs.Data.{Data, Members}
 
 -- the first fault of the check at a place, where those before it find none
@@ -51,26 +49,3 @@ pub location_is_right : (at key : List ℕ) (fields : Members) (n : ℕ) → Has
 location_is_right at key fields n has exists =
     ap (λ (found : Option Data). elim found [ None ↦ [] | Some value ↦ number_faults (at ++ key) is_location value ])
     has ∙ rw (is_location_true n exists) refl
-
--- the greatest D is to be from the least on
-pub wrong_d_to : (at : List ℕ) (fields : Members) (fault : NoteFault) (op d_from : ℕ)
-    → unknown_in at pattern_keys fields ≡ [] → missing_in at pattern_keys fields ≡ [] → HasNumber fields (codes "op") op
-    → op ≤ 99 → HasNumber fields (codes "d_from") d_from → d_from ≤ 9999
-    → IsFirst (missing_in at (codes "d_to" ∷ []) fields ++ whole d_from 9999 at (codes "d_to") fields) fault
-    → IsFirst (in_turn (pattern_checks at fields)) fault
-wrong_d_to at fields fault op d_from known there has_op op_high has_from from_high first =
-    let low : d_from ≡ number_at (codes "d_from") fields =
-    sym (ap (λ (found : Option Data). elim found [ None ↦ 0 | Some value ↦ number_in value ]) has_from) in
-    nth_in (pattern_checks at fields) 4 _ fault refl (
-      known,
-      (
-        there,
-        (
-          number_is_right at (codes "op") fields 0 99 op has_op (omega arith) op_high,
-          (number_is_right at (codes "d_from") fields 0 9999 d_from has_from (omega arith) from_high, tt),
-        ),
-      ),
-    )
-    (subst (λ (n : ℕ). IsFirst (whole n 9999 at (codes "d_to") fields) fault) low
-    (first_there at pattern_keys fields (codes "d_to") (whole d_from 9999 at (codes "d_to") fields) fault there refl
-    first))

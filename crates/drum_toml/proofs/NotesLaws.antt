@@ -1,6 +1,6 @@
 -- What a document of notes says, and why the notes are sound.
 use Rattle.std.proofs.Common.{◌≡◌, ℕ, zero, suc, ◌+◌, ◌<◌, Bool, true, false, List, [], ◌∷◌, ◌++◌, map, length, get_or}
-use Rattle.std.proofs.Common.{Option, Some, None, refl, ap, sym, ◌∙◌, arith}
+use Rattle.std.proofs.Common.{Option, Some, None, refl, ap, sym, ◌∙◌, subst, arith}
 use Rattle.std.specs.Prelude.{codes, flat_map}
 use Rattle.drum_times.specs.Listed.{listed}
 use Rattle.drum_times.specs.Marks.{edges_of}
@@ -22,7 +22,7 @@ abbrev loads : List (List ℕ × Bool)
 loads = (codes "none", false) ∷ (codes "any", true) ∷ []
 
 -- where the value at a key stands for something, and each text does for what has it, that is its text
-stood : {T : Type 0} (text_of : T → List ℕ) (choices : List (List ℕ × T)) (k : ℕ) (one : List ℕ) (chosen : T)
+pub stood : {T : Type 0} (text_of : T → List ℕ) (choices : List (List ℕ × T)) (k : ℕ) (one : List ℕ) (chosen : T)
     → ((j : ℕ) (d : List ℕ × T) → j < length choices → (get_or choices j d).0 ≡ text_of (get_or choices j d).1)
     → k < length choices → get_or choices k (one, chosen) ≡ (one, chosen) → one ≡ text_of chosen
 stood {T} text_of choices k one chosen each within at =
@@ -74,6 +74,14 @@ load_cards_are_right fields true has =
 -- the number at a key is the one that the table has there
 pub number_is : (fields : Members) (key : List ℕ) (n : ℕ) → HasNumber fields key n → number_at key fields ≡ n
 number_is fields key n has = ap (λ (found : Option Data). elim found [ None ↦ 0 | Some value ↦ number_in value ]) has
+
+-- so the table has there what the one at the key is
+pub same_number : (fields : Members) (key : List ℕ) (n m : ℕ) → m ≡ number_at key fields → HasNumber fields key n → m ≡ n
+same_number fields key n m is has = is ∙ number_is fields key n has
+
+pub has_same : (fields : Members) (key : List ℕ) (n m : ℕ) → m ≡ number_at key fields → HasNumber fields key n
+    → HasNumber fields key m
+has_same fields key n m is has = subst (HasNumber fields key) (sym (same_number fields key n m is has)) has
 
 -- what is made of each table of an array is made of what the tables say
 made_of_tables : {A B : Type 0} (Say : ℕ → Members → A → Type 0) (f : Members → B) (g : A → B)

@@ -68,13 +68,6 @@ not_missing at (one ∷ keys) fields key none among =
         (append-nil _ ∙ none_before _ (missing_in at keys fields) none)
     go false test h further = further h
 
--- so the first fault of its value is the first
-pub first_there : (at : List ℕ) (keys : List (List ℕ)) (fields : Members) (key : List ℕ) (xs : List Fault)
-    (fault : NoteFault) → missing_in at keys fields ≡ [] → is_one_of key keys ≡ true
-    → IsFirst (missing_in at (key ∷ []) fields ++ xs) fault → IsFirst xs fault
-first_there at keys fields key xs fault none among first =
-    subst (λ (ys : List Fault). IsFirst (ys ++ xs) fault) (not_missing at keys fields key none among) first
-
 -- what a `?` hands on
 pub carried : {T : Type 0} (r : Result T NoteFault) (faults : List Fault) (fault : NoteFault)
     → IsErrAnd r (λ other. other ≡ fault) → IsFirst faults fault → IfErr r (IsFirst faults)

@@ -4,6 +4,7 @@ ghost use Rattle.std.specs.Prelude.{IfOk, IfErr};
 ghost use Rattle.drum_toml.specs.Refused.{IsDocument, IsUnread};
 ghost use Rattle.toml.specs.View.{table_view};
 
+pub mod element;
 pub mod faults;
 pub mod fields;
 pub mod table_faults;

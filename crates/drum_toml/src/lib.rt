@@ -4,17 +4,20 @@
 //!
 //! Code, from the bottom up. `document` reads bytes as a TOML table, and its folder looks at one:
 //! `document/fields` at its keys (there a key's path is put together), `document/value` at a value
-//! by itself, `document/values` at the values of keys, `document/tables` at arrays of tables.
-//! `times/read` and `times/read_entry` read a timing table. `notes/read`, `notes/read_mark` and
-//! `notes/read_list` read short notes, and `notes/repeated` looks last for edges and locations that
-//! stand there twice. `notes/long` reads long notes, and `notes/long_mark` one of their marks:
-//! `notes/read_edges` its list of edges, and `notes/named` looks for the names of earlier marks.
-//! `notes/read_call` reads one of their calls, and `notes/opened` looks for what earlier ones open.
-//! `notes/notes_read` reads short notes or long ones. A check wants all faults: `document/faults`
-//! and `document/table_faults` gather those of tables; `times/faults` those of a timing table;
-//! `notes/long_faults` those of notes, with `notes/mark_faults`, `notes/list_faults`,
-//! `notes/call_faults` and `notes/repeated_faults`. `complaint` has what `toml` says of bytes that
-//! are no document. `laws` has those laws of the definitions that other crates call.
+//! by itself, `document/values` at the values of keys, `document/element` says what an element of
+//! an array of tables is to be, and `document/tables` reads such arrays. `document/faults` and
+//! `document/table_faults` gather what is wrong. Each rule of notes stands once, where their faults
+//! are gathered; a document is refused for the first of them, and read where there is none. So each
+//! kind of element has its check and its reading in one file: `notes/read_mark` the marks of short
+//! notes, `notes/read_list` lists and their patterns, `notes/long_mark` the marks of long notes,
+//! with `notes/mark_faults` for the checks of their keys, `notes/read_edges` for a list of edges,
+//! and `notes/named`, which looks for the names of earlier marks; `notes/read_call` calls, with
+//! `notes/opened`, which looks for what earlier ones open. `notes/repeated` and
+//! `notes/repeated_faults` look for edges and locations that stand there twice. `notes/read` reads
+//! short notes, `notes/long` long ones, of which `notes/long_faults` gathers all faults, and
+//! `notes/notes_read` either. `times/read` and `times/read_entry` read a timing table, of which
+//! `times/faults` gathers all faults. `complaint` has what `toml` says of bytes that are no
+//! document. `laws` has those laws of the definitions that other crates call.
 //!
 //! Definitions, in the order to read them: `Document` has what both documents share, the faults of
 //! a table first of all. `TimesDocument` and `NotesDocument` say what each document says, and its
@@ -24,13 +27,14 @@
 //! place in bytes. `Value` and `Opened` say what the code means by a value's fault, and by what a
 //! call opens.
 //!
-//! Proofs. `TimesFaults` and `NotesFaults` follow the checks one after the other. `TimesSaid`,
-//! `TimesFaultless`, `NotesSaid` and `NotesFaultless` show that a document says something exactly
-//! where it has no fault, and `AllFaultsLaws` that the first of all faults is the one that it is
-//! refused for. Of long notes, `LongChecks` follows the checks of a mark and `LongSound` shows that
-//! what is read is sound; `EdgeValues`, `LongMarks` and `Naming` have the values of a mark's keys.
-//! `CallChecks` follows the checks of a call, `CallsSaid` shows that a table says one exactly where
-//! it has no fault, and `CallsSound` that no two calls have one edge and one exit.
+//! Proofs. `Adding` follows faults as they are added, one behind the other: the first of them is
+//! the first of a document. `TimesSaid`, `TimesFaultless`, `NotesSaid` and `NotesFaultless` show
+//! that a document says something exactly where it has no fault, and `AllFaultsLaws` that the first
+//! of all faults is the one that it is refused for; of long notes `LongSaid`, `LongFaultless` and
+//! `LongFaults` do, of calls `CallsSaid`. `TimesEntries` puts the entries of a timing table
+//! together. `LongSound` shows that what is read of long notes is sound, and `CallsSound` that no
+//! two calls have one edge and one exit; `EdgeValues`, `LongMarks` and `Naming` have the values of
+//! a mark's keys.
 #![tactic(auto)]
 
 mod complaint;

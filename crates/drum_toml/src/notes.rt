@@ -1,7 +1,5 @@
 //! Notes on a program: read from a document, or all faults of one.
 
-mod call_faults;
-mod list_faults;
 pub mod long;
 pub mod long_faults;
 mod long_mark;

@@ -17,6 +17,9 @@ impl Listing {
     ghost use Rattle.drum_times.specs.Allowed as said;
     ghost use Rattle.drum_times.specs.Listed.{listed};
 
+    /// How many patterns a list has at most.
+    pub const MOST: usize = 64;
+
     /// The patterns of a location, where one of the lists is for it.
     pub fn patterns_in(lists: &[Listing], location: Location) -> Option<&[Pattern]>
         ensures { option_map (λ patterns. patterns.now) result

@@ -39,6 +39,9 @@ impl Mark {
     /// How many marks short notes have at most.
     pub const MOST_SHORT: usize = 8;
 
+    /// How many edges a mark of long notes lists at most.
+    pub const MOST_EDGES: usize = 64;
+
     /// Its first edge.
     pub fn first(&self) -> Edge
         ensures from { result.from ≡ self.now.from }

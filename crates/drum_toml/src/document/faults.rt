@@ -1,5 +1,7 @@
 //! All faults of a document, added one behind the other as its tables are checked.
-ghost use Rattle.std.specs.Prelude.{◌≡◌, ◌∷◌, [], ◌++◌, if◌then◌else◌, map, IfOk, string_bytes};
+ghost use Rattle.std.specs.Prelude.{◌≡◌, ◌∷◌, [], ◌++◌, if◌then◌else◌, map, IfOk, IfErr, List};
+ghost use Rattle.std.specs.Prelude.{string_bytes};
+ghost use Rattle.drum_times.specs.declared.fault.NoteFault.{NoteFault};
 ghost use Rattle.drum_toml.specs.AllFaults.{Adds};
 ghost use Rattle.drum_toml.specs.Document as document;
 ghost use Rattle.drum_toml.specs.Value.{fault_of};
@@ -32,6 +34,22 @@ impl Faults {
     {
         Faults {
             all: Vec::new(alloc),
+        }
+    }
+
+    /// Refuses for the first fault, if there is one.
+    ///
+    /// # Errors
+    ///
+    /// That fault.
+    pub fn refuse(self) -> Result<(), NoteFault>
+        ensures none { IfOk result (λ _. self.all.items ≡ []) }
+        ensures first { IfErr result (λ fault. (others : List NoteFault)
+            × (self.all.items ≡ fault ∷ others)) }
+    {
+        match self.all.into_iter().next() {
+            Some(fault) => Err(fault),
+            None => Ok(()),
         }
     }
 

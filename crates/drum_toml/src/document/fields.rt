@@ -1,11 +1,10 @@
-ghost use Rattle.std.specs.Prelude.{◌≡◌, ◌∷◌, [], ◌++◌, Some, IfOk, IfErr, map, option_map};
+ghost use Rattle.std.specs.Prelude.{◌≡◌, ◌++◌, IfOk, map, option_map};
 ghost use Rattle.std.specs.Prelude.{string_bytes, codes};
 ghost use Rattle.drum_toml.specs.Document as document;
-ghost use Rattle.drum_toml.specs.Refused.{IsFirst};
 ghost use Rattle.toml.specs.Data.{get_member};
 ghost use Rattle.toml.specs.View.{view, table_view};
 
-use drum_times::{KeyPath, NoteFault};
+use drum_times::KeyPath;
 use std::alloc::{AllocError, Global};
 use toml::{Table, Value};
 
@@ -51,49 +50,6 @@ impl Fields<'_> {
             ≡ get_member key.now (table_view self.now.table.now) }
     {
         member(self.table, key)
-    }
-
-    /// Checks that each of its keys is known; else Unknown with the first in byte order that isn't.
-    pub fn only(&self, known: &[&str]) -> Result<(), NoteFault>
-        ensures none { IfOk result (λ _. document.unknown_in self.now.at.now
-            (map (λ key. key.now) known.now) (table_view self.now.table.now) ≡ []) }
-        ensures first { IfErr result (IsFirst (document.unknown_in self.now.at.now
-            (map (λ key. key.now) known.now) (table_view self.now.table.now))) }
-    {
-        for (key, _) in self.table.iter() {
-            if !is_one_of(key.as_str(), known) {
-                return Err(NoteFault::Unknown(self.path(key.as_str())?));
-            }
-        }
-        Ok(())
-    }
-
-    /// Checks that each of some keys is there; else Missing with the first that isn't.
-    pub fn all(&self, wanted: &[&str]) -> Result<(), NoteFault>
-        ensures none { IfOk result (λ _. document.missing_in self.now.at.now
-            (map (λ key. key.now) wanted.now) (table_view self.now.table.now) ≡ []) }
-        ensures first { IfErr result (IsFirst (document.missing_in self.now.at.now
-            (map (λ key. key.now) wanted.now) (table_view self.now.table.now))) }
-    {
-        for key in wanted {
-            if self.get(key).is_none() {
-                return Err(NoteFault::Missing(self.path(key)?));
-            }
-        }
-        Ok(())
-    }
-
-    /// The value at a key; Missing where there is none.
-    pub fn value(&self, key: &str) -> Result<&Value, NoteFault>
-        ensures found { IfOk result (λ value.
-            get_member key.now (table_view self.now.table.now) ≡ Some (view value.now)) }
-        ensures first { IfErr result (IsFirst (document.missing_in self.now.at.now
-            (key.now ∷ []) (table_view self.now.table.now))) }
-    {
-        match self.get(key) {
-            Some(value) => Ok(value),
-            None => Err(NoteFault::Missing(self.path(key)?)),
-        }
     }
 }
 

@@ -1,11 +1,10 @@
 //! All faults of an array of tables, one element whole before the next.
-ghost use Rattle.std.specs.Prelude.{ℕ, ◌+◌, ◌^◌, ◌<◌, List, ◌++◌, codes, decimal, IfOk};
+ghost use Rattle.std.specs.Prelude.{◌+◌, ◌^◌, ◌<◌, ◌++◌, codes, decimal, IfOk};
 ghost use Rattle.drum_toml.specs.AllFaults.{Adds};
 ghost use Rattle.drum_toml.specs.Document as document;
-ghost use Rattle.drum_toml.specs.Document.{Fault};
-ghost use Rattle.toml.specs.Data.{Members};
 ghost use Rattle.toml.specs.View.{view, table_view, items_view};
 
+use super::element::Element;
 use super::faults::Faults;
 use super::fields::Fields;
 use super::tables::{element_path, is_count};
@@ -14,23 +13,10 @@ use drum_times::{KeyPath, NoteFault};
 use std::alloc::AllocError;
 use toml::Value;
 
-/// What an element of an array of tables is to be.
-pub trait Checked: Sized {
-    /// The faults of the table of a document, the element of this number from 1, whose keys' path
-    /// begins so.
-    ghost faults: { Members → ℕ → List ℕ → Members → List Fault };
-
-    /// Adds the faults of the element with this index, from 0.
-    fn check(into: &mut Faults, fields: &Fields<'_>, place: usize) -> Result<(), AllocError>
-        ensures { IfOk result (λ _. Adds into.old.all.items into.new.all.items
-            (faults (table_view fields.now.whole.now) (place + 1) fields.now.at.now
-            (table_view fields.now.table.now))) };
-}
-
 impl Faults {
     /// Adds what is wrong with a key's value, which is to be an array of tables, from `low` to
     /// `high` of them, and with its elements.
-    pub fn tables<T: Checked>(
+    pub fn tables<T: Element>(
         &mut self,
         fields: &Fields<'_>,
         key: &str,
@@ -58,7 +44,7 @@ impl Faults {
     }
 
     /// Adds the faults of the elements of an array at a path.
-    fn elements<T: Checked>(
+    fn elements<T: Element>(
         &mut self,
         fields: &Fields<'_>,
         path: &str,
@@ -75,7 +61,7 @@ impl Faults {
     }
 
     /// Adds those of the element with this index, from 0.
-    fn element<T: Checked>(
+    fn element<T: Element>(
         &mut self,
         fields: &Fields<'_>,
         path: &str,

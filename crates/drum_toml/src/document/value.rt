@@ -21,22 +21,6 @@ pub enum ValueFault {
     Range,
 }
 
-impl ValueFault {
-    /// The fault of the value at this path; Memory past the longest path, for which no machine has
-    /// room.
-    pub fn at(self, path: String) -> NoteFault
-        ensures { IsFirst (fault_of self (string_bytes path) ∷ []) result }
-    {
-        let Some(path) = KeyPath::new(path) else {
-            return NoteFault::Memory;
-        };
-        match self {
-            ValueFault::Kind => NoteFault::Kind(path),
-            ValueFault::Range => NoteFault::Range(path),
-        }
-    }
-}
-
 /// The whole number from `low` to `high` that a value is; else Kind or Range.
 pub fn whole_number(value: &Value, low: u64, high: u64) -> Result<u64, ValueFault>
     ensures found { IfOk result (λ n. view value.now ≡ integer (pos n)) }

@@ -1,6 +1,6 @@
 //! Long notes, read from a document, or the first fault of the document.
 
-ghost use Rattle.std.specs.Prelude.{◌≡◌, map, IfOk, IfErr};
+ghost use Rattle.std.specs.Prelude.{◌≡◌, [], map, IfOk, IfErr};
 ghost use Rattle.drum_toml.specs.LongNotes as said;
 ghost use Rattle.drum_toml.specs.Refused.{IsDocument, IsFirst, IsRefused};
 ghost use Rattle.toml.specs.Data.{Members};
@@ -8,7 +8,7 @@ ghost use Rattle.toml.specs.View.{table_view};
 
 use super::long_mark::LongMark;
 use super::read::{LOAD_CARDS, PROGRAMMED};
-use super::repeated::{edges_of, repeated_edge, repeated_location};
+use crate::document::faults::Faults;
 use crate::document::fields::Fields;
 use crate::document::read_document;
 use drum_times::{Call, Listing, Mark, NoteFault, Notes};
@@ -40,10 +40,21 @@ pub fn marks_of(alloc: Global, long: Vec<LongMark>) -> Result<Vec<Mark>, AllocEr
     long.into_iter().map(|one| one.mark).collect(alloc)
 }
 
-/// The long notes that a document is.
+/// The long notes that a document is, or its first fault.
 fn read_table(alloc: Global, table: &Table) -> Result<Notes, NoteFault>
     ensures said { IfOk result (said.IsLongNotes (table_view table.now)) }
     ensures first { IfErr result (IsFirst (said.long_notes_faults (table_view table.now))) }
+{
+    let mut faults = Faults::new(alloc);
+    faults.long_notes(alloc, table)?;
+    faults.refuse()?;
+    Ok(notes_in(alloc, table)?)
+}
+
+/// The long notes that a document without faults is.
+fn notes_in(alloc: Global, table: &Table) -> Result<Notes, AllocError>
+    requires { said.long_notes_faults (table_view table.now) ≡ [] }
+    ensures { IfOk result (said.IsLongNotes (table_view table.now)) }
 {
     let top = Fields {
         alloc,
@@ -51,20 +62,10 @@ fn read_table(alloc: Global, table: &Table) -> Result<Notes, NoteFault>
         table,
         whole: table,
     };
-    top.only(&["programmed", "load_cards", "mark", "list", "call"])?;
-    top.all(&["programmed", "load_cards"])?;
-    let programmed = top.choice("programmed", &PROGRAMMED)?;
-    let load_cards = top.choice("load_cards", &LOAD_CARDS)?;
-    let long: Vec<LongMark> = top.tables("mark", 0, Some(Mark::MOST))?;
-    let lists: Vec<Listing> = top.tables("list", 0, None)?;
-    let calls: Vec<Call> = top.tables("call", 0, Some(Call::MOST))?;
-    let marks = marks_of(alloc, long)?;
-    let edges = edges_of(alloc, &marks)?;
-    if let Some(edge) = repeated_edge(&edges) {
-        return Err(NoteFault::TwoMarks(edge.from, edge.onto));
-    }
-    if let Some(location) = repeated_location(&lists) {
-        return Err(NoteFault::TwoLists(location));
-    }
+    let programmed = top.chosen("programmed", &PROGRAMMED);
+    let load_cards = top.chosen("load_cards", &LOAD_CARDS);
+    let marks = marks_of(alloc, top.elements("mark")?)?;
+    let lists: Vec<Listing> = top.elements("list")?;
+    let calls: Vec<Call> = top.elements("call")?;
     Ok(Notes::new(programmed, load_cards, marks, lists, calls))
 }

@@ -1,19 +1,18 @@
 //! All faults of long notes.
 
-ghost use Rattle.std.specs.Prelude.{◌≡◌, [], IfOk};
+ghost use Rattle.std.specs.Prelude.{◌≡◌, [], true, false, IfOk};
 ghost use Rattle.drum_toml.specs.AllFaults as all;
 ghost use Rattle.drum_toml.specs.AllFaults.{Adds, AreAllFaults};
 ghost use Rattle.drum_toml.specs.LongNotes as said;
 ghost use Rattle.toml.specs.View.{table_view};
 
 use super::long::marks_of;
-use super::long_mark::{LongMark, lists_edges};
+use super::long_mark::LongMark;
 use super::read::{LOAD_CARDS, PROGRAMMED};
 use super::repeated::edges_of;
 use crate::document::faults::{Faults, no_document};
 use crate::document::fields::Fields;
 use crate::document::read_document;
-use crate::document::table_faults::Checked;
 use drum_times::{Call, Listing, Mark, NoteFault};
 use std::alloc::{AllocError, Global};
 use toml::Table;
@@ -42,7 +41,7 @@ pub fn long_notes_faults(alloc: Global, bytes: &[u8]) -> Result<Vec<NoteFault>, 
 
 impl Faults {
     /// Adds those of a document that is to be long notes.
-    fn long_notes(&mut self, alloc: Global, table: &Table) -> Result<(), AllocError>
+    pub fn long_notes(&mut self, alloc: Global, table: &Table) -> Result<(), AllocError>
         ensures { IfOk result (λ _. Adds self.old.all.items self.new.all.items
             (all.all_long_faults (table_view table.now))) }
     {
@@ -56,56 +55,46 @@ impl Faults {
         self.missing(&top, &["programmed", "load_cards"])?;
         self.choice(&top, "programmed", &PROGRAMMED)?;
         self.choice(&top, "load_cards", &LOAD_CARDS)?;
-        self.tables::<LongMark>(&top, "mark", 0, Some(Mark::MOST))?;
+        let fine = self.marks(&top)?;
         self.tables::<Listing>(&top, "list", 0, None)?;
         self.tables::<Call>(&top, "call", 0, Some(Call::MOST))?;
-        self.repeated_marks(&top)?;
+        self.repeated_marks(&top, fine)?;
         self.repeated_lists(&top)?;
         Ok(())
     }
 
-    /// Adds each edge that is there twice, where the marks have no other fault.
-    fn repeated_marks(&mut self, top: &Fields<'_>) -> Result<(), AllocError>
+    /// Adds what is wrong with the marks, and tells whether nothing is.
+    fn marks(&mut self, top: &Fields<'_>) -> Result<bool, AllocError>
         requires whole { table_view top.now.whole.now ≡ table_view top.now.table.now }
         requires top { top.now.at.now ≡ [] }
+        ensures adds { IfOk result (λ _. Adds self.old.all.items self.new.all.items
+            (all.mark_tables_faults (table_view top.now.table.now))) }
+        ensures fine { IfOk result (λ fine. fine ≡ true
+            → all.mark_tables_faults (table_view top.now.table.now) ≡ []) }
+        ensures wrong { IfOk result (λ fine. fine ≡ false
+            → all.repeated_edges (table_view top.now.table.now) ≡ []) }
+    {
+        let before = self.all.len();
+        self.tables::<LongMark>(top, "mark", 0, Some(Mark::MOST))?;
+        Ok(self.all.len() == before)
+    }
+
+    /// Adds each edge that is there twice, where nothing is wrong with the marks.
+    fn repeated_marks(&mut self, top: &Fields<'_>, fine: bool) -> Result<(), AllocError>
+        requires whole { table_view top.now.whole.now ≡ table_view top.now.table.now }
+        requires top { top.now.at.now ≡ [] }
+        requires fine { fine ≡ true
+            → all.mark_tables_faults (table_view top.now.table.now) ≡ [] }
+        requires wrong { fine ≡ false → all.repeated_edges (table_view top.now.table.now) ≡ [] }
         ensures { IfOk result (λ _. Adds self.old.all.items self.new.all.items
             (all.repeated_edges (table_view top.now.table.now))) }
     {
-        let long: Vec<LongMark> = match top.tables("mark", 0, Some(Mark::MOST)) {
-            Ok(long) => long,
-            Err(fault) => {
-                of_document(fault)?;
-                return Ok(());
-            }
-        };
-        let marks = marks_of(top.alloc, long)?;
+        if !fine {
+            return Ok(());
+        }
+        let marks = marks_of(top.alloc, top.elements("mark")?)?;
         let edges = edges_of(top.alloc, &marks)?;
         self.second_edges(&edges)?;
-        Ok(())
-    }
-}
-
-/// That a fault is one of the document, unless it is a lack of memory.
-fn of_document(fault: NoteFault) -> Result<(), AllocError>
-    ensures { IfOk result (λ _. fault ≡ NoteFault.Memory → ⊥) }
-{
-    match fault {
-        NoteFault::Memory => Err(AllocError),
-        _ => Ok(()),
-    }
-}
-
-impl Checked for LongMark {
-    ghost faults = { said.long_mark_faults };
-
-    fn check(into: &mut Faults, fields: &Fields<'_>, place: usize) -> Result<(), AllocError> {
-        let listed = lists_edges(fields);
-        into.long_keys(fields, listed)?;
-        into.wanted_keys(fields, listed)?;
-        into.mark_edges(fields, listed)?;
-        into.whole_number(fields, "most", 0, 9999)?;
-        into.outer(fields, place)?;
-        into.name(fields, place)?;
         Ok(())
     }
 }

@@ -10,12 +10,11 @@ ghost use Rattle.drum_toml.specs.LongNotes as said;
 ghost use Rattle.toml.specs.View.{view, table_view, items_view};
 
 use super::named::{first_marks, is_named};
-use super::read_edges::MOST_EDGES;
 use crate::document::faults::Faults;
 use crate::document::fields::Fields;
 use crate::document::tables::{element_path, is_count};
 use crate::document::value::{self, ValueFault};
-use drum_times::Name;
+use drum_times::{Mark, Name};
 use std::alloc::{AllocError, Global};
 use toml::Value;
 
@@ -83,7 +82,7 @@ impl Faults {
             self.wrong(fields, "edges", ValueFault::Kind)?;
             return Ok(());
         };
-        if !is_count(items.len(), 1, Some(MOST_EDGES)) {
+        if !is_count(items.len(), 1, Some(Mark::MOST_EDGES)) {
             self.wrong(fields, "edges", ValueFault::Range)?;
             return Ok(());
         }

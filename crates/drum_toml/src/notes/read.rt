@@ -1,16 +1,19 @@
 //! Notes, read from a document, or the first fault of the document.
 
-ghost use Rattle.std.specs.Prelude.{IfOk, IfErr};
+ghost use Rattle.std.specs.Prelude.{take, IfOk, IfErr};
+ghost use Rattle.drum_toml.specs.AllFaults.{Adds};
+ghost use Rattle.drum_toml.specs.Document as document;
 ghost use Rattle.drum_toml.specs.NotesDocument as said;
 ghost use Rattle.drum_toml.specs.Refused.{IsDocument, IsFirst, IsRefused};
 ghost use Rattle.toml.specs.Data.{Members};
 ghost use Rattle.toml.specs.View.{table_view};
 
 use super::repeated::{edges_of, repeated_edge, repeated_location};
+use crate::document::faults::Faults;
 use crate::document::fields::Fields;
 use crate::document::read_document;
 use drum_times::{Listing, Mark, NoteFault, Notes, Programmed};
-use std::alloc::Global;
+use std::alloc::{AllocError, Global};
 use toml::Table;
 
 pub const PROGRAMMED: [(&str, Programmed); 3] = [
@@ -38,23 +41,24 @@ pub fn read_notes(alloc: Global, bytes: &[u8]) -> Result<Notes, NoteFault>
     read_table(alloc, &table)
 }
 
-/// The notes that a document is.
+/// The notes that a document is, or its first fault.
 fn read_table(alloc: Global, table: &Table) -> Result<Notes, NoteFault>
     ensures said { IfOk result (said.IsNotes (table_view table.now)) }
     ensures first { IfErr result (IsFirst (said.notes_faults (table_view table.now))) }
 {
+    let mut faults = Faults::new(alloc);
+    faults.short_values(alloc, table)?;
+    faults.refuse()?;
     let top = Fields {
         alloc,
         at: "",
         table,
         whole: table,
     };
-    top.only(&["programmed", "load_cards", "mark", "list"])?;
-    top.all(&["programmed", "load_cards"])?;
-    let programmed = top.choice("programmed", &PROGRAMMED)?;
-    let load_cards = top.choice("load_cards", &LOAD_CARDS)?;
-    let marks: Vec<Mark> = top.tables("mark", 0, Some(Mark::MOST_SHORT))?;
-    let lists: Vec<Listing> = top.tables("list", 0, None)?;
+    let programmed = top.chosen("programmed", &PROGRAMMED);
+    let load_cards = top.chosen("load_cards", &LOAD_CARDS);
+    let marks: Vec<Mark> = top.elements("mark")?;
+    let lists: Vec<Listing> = top.elements("list")?;
     let edges = edges_of(alloc, &marks)?;
     if let Some(edge) = repeated_edge(&edges) {
         return Err(NoteFault::TwoMarks(edge.from, edge.onto));
@@ -64,4 +68,27 @@ fn read_table(alloc: Global, table: &Table) -> Result<Notes, NoteFault>
     }
     let calls = Vec::new(alloc);
     Ok(Notes::new(programmed, load_cards, marks, lists, calls))
+}
+
+impl Faults {
+    /// Adds those of a document that is to be short notes, but for edges and locations that are
+    /// there twice.
+    fn short_values(&mut self, alloc: Global, table: &Table) -> Result<(), AllocError>
+        ensures { IfOk result (λ _. Adds self.old.all.items self.new.all.items
+            (document.in_turn (take 6 (said.notes_checks (table_view table.now))))) }
+    {
+        let top = Fields {
+            alloc,
+            at: "",
+            table,
+            whole: table,
+        };
+        self.unknown(&top, &["programmed", "load_cards", "mark", "list"])?;
+        self.missing(&top, &["programmed", "load_cards"])?;
+        self.choice(&top, "programmed", &PROGRAMMED)?;
+        self.choice(&top, "load_cards", &LOAD_CARDS)?;
+        self.tables::<Mark>(&top, "mark", 0, Some(Mark::MOST_SHORT))?;
+        self.tables::<Listing>(&top, "list", 0, None)?;
+        Ok(())
+    }
 }

@@ -1,30 +1,37 @@
-//! A list of the notes and its patterns, read from their tables.
+//! The lists of notes and their patterns, checked and read.
 
 ghost use Rattle.drum_times.specs.Listed.{listed};
 ghost use Rattle.drum_toml.specs.NotesDocument as said;
 
+use crate::document::element::Element;
+use crate::document::faults::Faults;
 use crate::document::fields::Fields;
-use crate::document::tables::Element;
-use drum_times::{Listing, NoteFault, Pattern};
+use drum_times::{Listing, Pattern};
+use std::alloc::AllocError;
 
 impl Element for Pattern {
     ghost says = { λ _ _. said.IsPattern };
 
     ghost faults = { λ _. said.pattern_faults };
 
-    fn read(fields: &Fields<'_>, _place: usize) -> Result<Pattern, NoteFault> {
+    fn check(into: &mut Faults, fields: &Fields<'_>, _place: usize) -> Result<(), AllocError> {
         let keys = ["op", "d_from", "d_to", "i"];
-        fields.only(&keys)?;
-        fields.all(&keys)?;
-        let op = fields.whole_number("op", 0, 99)?;
-        let d_from = fields.whole_number("d_from", 0, 9999)?;
-        let d_to = fields.whole_number("d_to", d_from, 9999)?;
-        let i = fields.whole_number("i", 0, 9999)?;
+        into.unknown(fields, &keys)?;
+        into.missing(fields, &keys)?;
+        into.whole_number(fields, "op", 0, 99)?;
+        into.whole_number(fields, "d_from", 0, 9999)?;
+        let least = fields.number("d_from");
+        into.whole_number(fields, "d_to", least, 9999)?;
+        into.whole_number(fields, "i", 0, 9999)?;
+        Ok(())
+    }
+
+    fn read(fields: &Fields<'_>, _place: usize) -> Result<Pattern, AllocError> {
         Ok(Pattern {
-            op: op as u8,
-            d_from: d_from as u16,
-            d_to: d_to as u16,
-            i: i as u16,
+            op: fields.number("op") as u8,
+            d_from: fields.number("d_from") as u16,
+            d_to: fields.number("d_to") as u16,
+            i: fields.number("i") as u16,
         })
     }
 }
@@ -34,12 +41,19 @@ impl Element for Listing {
 
     ghost faults = { λ _. said.list_faults };
 
-    fn read(fields: &Fields<'_>, _place: usize) -> Result<Listing, NoteFault> {
+    fn check(into: &mut Faults, fields: &Fields<'_>, _place: usize) -> Result<(), AllocError> {
         let keys = ["location", "pattern"];
-        fields.only(&keys)?;
-        fields.all(&keys)?;
-        let location = fields.location("location")?;
-        let patterns = fields.tables("pattern", 1, Some(64))?;
-        Ok(Listing { location, patterns })
+        into.unknown(fields, &keys)?;
+        into.missing(fields, &keys)?;
+        into.location(fields, "location")?;
+        into.tables::<Pattern>(fields, "pattern", 1, Some(Listing::MOST))?;
+        Ok(())
+    }
+
+    fn read(fields: &Fields<'_>, _place: usize) -> Result<Listing, AllocError> {
+        Ok(Listing {
+            location: fields.location("location"),
+            patterns: fields.elements("pattern")?,
+        })
     }
 }

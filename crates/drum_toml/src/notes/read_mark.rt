@@ -1,48 +1,37 @@
-//! A mark of the notes, read from its table.
+//! The marks of short notes, checked and read.
 
-ghost use Rattle.std.specs.Prelude.{◌≡◌, [], IfOk, IfErr};
 ghost use Rattle.drum_toml.specs.NotesDocument as said;
-ghost use Rattle.drum_toml.specs.Refused.{IsFirst};
-ghost use Rattle.toml.specs.View.{table_view};
 
+use crate::document::element::Element;
+use crate::document::faults::Faults;
 use crate::document::fields::Fields;
-use crate::document::tables::Element;
-use drum_times::{Edges, Mark, NoteFault};
+use drum_times::{Edges, Mark};
+use std::alloc::AllocError;
 
 impl Element for Mark {
     ghost says = { λ _. said.IsMark };
 
     ghost faults = { λ _. said.mark_faults };
 
-    fn read(fields: &Fields<'_>, place: usize) -> Result<Mark, NoteFault> {
-        fields.only(&["from", "to", "most", "inside"])?;
-        fields.all(&["from", "to", "most"])?;
-        let from = fields.location("from")?;
-        let onto = fields.location("to")?;
-        let most = fields.whole_number("most", 0, 9999)?;
-        let inside = read_inside(fields, place)?;
+    fn check(into: &mut Faults, fields: &Fields<'_>, place: usize) -> Result<(), AllocError> {
+        into.unknown(fields, &["from", "to", "most", "inside"])?;
+        into.missing(fields, &["from", "to", "most"])?;
+        into.location(fields, "from")?;
+        into.location(fields, "to")?;
+        into.whole_number(fields, "most", 0, 9999)?;
+        into.whole_number(fields, "inside", 1, place as u64)?;
+        Ok(())
+    }
+
+    fn read(fields: &Fields<'_>, _place: usize) -> Result<Mark, AllocError> {
         Ok(Mark {
-            from,
-            onto,
+            from: fields.location("from"),
+            onto: fields.location("to"),
             others: Edges::none(fields.alloc),
-            most: most as u16,
-            inside,
+            most: fields.number("most") as u16,
+            // The number of the mark that it stands inside of, which is 0 where there is none.
+            inside: (fields.number("inside") as usize).checked_sub(1),
             name: None,
         })
     }
-}
-
-/// The index of the mark that the one with this index stands inside of.
-fn read_inside(fields: &Fields<'_>, place: usize) -> Result<Option<usize>, NoteFault>
-    ensures said { IfOk result (said.HasInside place (table_view fields.now.table.now)) }
-    ensures none { IfOk result (λ _.
-        said.inside_faults place fields.now.at.now (table_view fields.now.table.now) ≡ []) }
-    ensures first { IfErr result (IsFirst
-        (said.inside_faults place fields.now.at.now (table_view fields.now.table.now))) }
-{
-    if fields.get("inside").is_none() {
-        return Ok(None);
-    }
-    let number = fields.whole_number("inside", 1, place as u64)?;
-    Ok(Some(number as usize - 1))
 }

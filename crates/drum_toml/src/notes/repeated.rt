@@ -1,4 +1,5 @@
-//! Edges that are there twice among those of marks, and lists for one location.
+//! Edges that are there twice among those of marks, and lists for one location. (Short notes are
+//! refused for them in `read`, long ones for what `repeated_faults` adds.)
 ghost use Rattle.std.specs.Prelude.{◌≡◌, [], map, flat_map, IfNone, IfOk, IfSome};
 ghost use Rattle.drum_times.specs.EdgeOf.{edge_of};
 ghost use Rattle.drum_times.specs.Marks.{edges_of as edges_of_mark};

@@ -40,7 +40,7 @@ pub fn times_faults(alloc: Global, bytes: &[u8]) -> Result<Vec<NoteFault>, Alloc
 
 impl Faults {
     /// Adds those of a document that is to be a timing table.
-    fn times(&mut self, alloc: Global, table: &Table) -> Result<(), AllocError>
+    pub fn times(&mut self, alloc: Global, table: &Table) -> Result<(), AllocError>
         ensures { IfOk result (λ _. Adds self.old.all.items self.new.all.items
             (document.times_faults (table_view table.now))) }
     {

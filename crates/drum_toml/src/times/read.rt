@@ -1,8 +1,8 @@
 //! A timing table, read from a document, or the first fault of the document.
 
-ghost use Rattle.std.specs.Prelude.{◌≡◌, ℕ, ◌<◌, [], map, codes, slice_get, Some, IfOk, IfErr};
-ghost use Rattle.std.specs.Prelude.{flat_map};
+ghost use Rattle.std.specs.Prelude.{◌≡◌, ℕ, [], map, slice_get, Some, IfOk, IfErr};
 ghost use Rattle.drum_core.specs.declared.op.Op.{Op};
+ghost use Rattle.drum_times.specs.declared.entry.Entry.{Entry};
 ghost use Rattle.drum_core.specs.Op.{ops};
 ghost use Rattle.drum_times.specs.Entries.{entry_in};
 ghost use Rattle.drum_toml.specs.Refused.{IsDocument, IsFirst, IsRefused};
@@ -11,6 +11,7 @@ ghost use Rattle.toml.specs.Data.{Members};
 ghost use Rattle.toml.specs.View.{table_view};
 
 use super::read_entry::read_entry;
+use crate::document::faults::Faults;
 use crate::document::fields::Fields;
 use crate::document::read_document;
 use drum_core::{Op, Parity};
@@ -35,10 +36,21 @@ pub fn read_times(alloc: Global, bytes: &[u8]) -> Result<Times, NoteFault>
     read_table(alloc, &table)
 }
 
-/// The timing table that a document is.
+/// The timing table that a document is, or its first fault.
 fn read_table(alloc: Global, table: &Table) -> Result<Times, NoteFault>
     ensures said { IfOk result (λ times. document.IsTimes (table_view table.now) (entry_in times)) }
     ensures first { IfErr result (IsFirst (document.times_faults (table_view table.now))) }
+{
+    let mut faults = Faults::new(alloc);
+    faults.times(alloc, table)?;
+    faults.refuse()?;
+    Ok(times_in(alloc, table))
+}
+
+/// The timing table that a document without faults is.
+fn times_in(alloc: Global, table: &Table) -> Times
+    requires { document.times_faults (table_view table.now) ≡ [] }
+    ensures { document.IsTimes (table_view table.now) (entry_in result) }
 {
     let top = Fields {
         alloc,
@@ -46,26 +58,22 @@ fn read_table(alloc: Global, table: &Table) -> Result<Times, NoteFault>
         table,
         whole: table,
     };
-    top.only(&["op"])?;
     let operations = Fields {
         alloc,
         at: "op.",
-        table: top.table("op")?,
+        table: top.table("op"),
         whole: table,
     };
-    let keys = keys();
-    operations.only(&keys)?;
-    read_entries(&operations, &keys, &Op::all())
+    read_entries(&operations, &keys(), &Op::all())
 }
 
 /// The entries of the operations, in their order; `keys` are their keys.
-fn read_entries(operations: &Fields<'_>, keys: &[&str], ops: &[Op]) -> Result<Times, NoteFault>
-    requires here { operations.now.at.now ≡ codes "op." }
+fn read_entries(operations: &Fields<'_>, keys: &[&str], ops: &[Op]) -> Times
     requires keyed { map (λ key. key.now) keys.now ≡ map document.key_of ops.now }
-    ensures said { IfOk result (λ times. (k : ℕ) (op : Op) → slice_get ops.now k ≡ Some op
-        → document.SaysOperation (table_view operations.now.table.now) op (entry_in times op)) }
-    ensures first { IfErr result (IsFirst (flat_map
-        (document.operation_faults (table_view operations.now.table.now)) ops.now)) }
+    requires each { (op : Op) → (entry : Entry)
+        × document.SaysOperation (table_view operations.now.table.now) op entry }
+    ensures { (k : ℕ) (op : Op) → slice_get ops.now k ≡ Some op
+        → document.SaysOperation (table_view operations.now.table.now) op (entry_in result op) }
 {
     let blank = Entry {
         before: 1,
@@ -77,29 +85,22 @@ fn read_entries(operations: &Fields<'_>, keys: &[&str], ops: &[Op]) -> Result<Ti
     };
     let mut entries = [blank; 100];
     for (at, op) in ops.iter().enumerate() {
-        match read_operation(operations, keys[at], *op) {
-            Ok(entry) => entries[op.number() as usize] = entry,
-            Err(fault) => return Err(fault),
-        }
+        entries[op.number() as usize] = read_operation(operations, keys[at], *op);
     }
-    Ok(Times::new(entries))
+    Times::new(entries)
 }
 
 /// The entry of an operation, of which this is the key.
-fn read_operation(operations: &Fields<'_>, key: &str, op: Op) -> Result<Entry, NoteFault>
-    requires here { operations.now.at.now ≡ codes "op." }
+fn read_operation(operations: &Fields<'_>, key: &str, op: Op) -> Entry
     requires keyed { key.now ≡ document.key_of op }
-    ensures said { IfOk result (document.SaysOperation (table_view operations.now.table.now) op) }
-    ensures none { IfOk result (λ _.
-        document.operation_faults (table_view operations.now.table.now) op ≡ []) }
-    ensures first { IfErr result (IsFirst
-        (document.operation_faults (table_view operations.now.table.now) op)) }
+    requires said { (entry : Entry)
+        × document.SaysOperation (table_view operations.now.table.now) op entry }
+    ensures { document.SaysOperation (table_view operations.now.table.now) op result }
 {
-    let at = operations.inside(key)?;
     let fields = Fields {
         alloc: operations.alloc,
-        at: at.as_str(),
-        table: operations.table(key)?,
+        at: "",
+        table: operations.table(key),
         whole: operations.whole,
     };
     read_entry(&fields, op)

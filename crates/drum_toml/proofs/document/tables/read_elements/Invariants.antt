@@ -1,4 +1,4 @@
-use Rattle.std.proofs.Common.{◌≡◌, ◌+◌, ◌++◌, List, drop, length}
+use Rattle.std.proofs.Common.{◌≡◌, ◌+◌, ◌++◌, List, [], drop}
 use Rattle.toml.specs.View.{items_view, table_view}
 use Rattle.drum_toml.specs.Document as document
 use Rattle.drum_toml.specs.NotesDocument.{AreTables}
@@ -6,11 +6,10 @@ use Rattle.drum_toml.proofs.document.tables.read_elements.Given as goal
 
 abbrev pub invariant-loop-place : goal.invariant-loop-place
 invariant-loop-place g l = record {
-  count : length l.elements.items ≡ l.place;
   -- what the tables that are left say, with what is there, is what all say
   said : (more : List g.row.T.Denot) → AreTables (g.T.Element.says (table_view l.fields.whole.now)) l.place (items_view (drop l.place l.items)) more
       → AreTables (g.T.Element.says (table_view l.fields.whole.now)) 0 (items_view l.items) (l.elements.items ++ more);
-  -- the faults of those that are left are those of all
-  none : document.elements_faults (g.T.Element.faults (table_view l.fields.whole.now)) l.path (l.place + 1) (items_view (drop l.place l.items))
-      ≡ document.elements_faults (g.T.Element.faults (table_view l.fields.whole.now)) l.path 1 (items_view l.items);
+  -- and they have no fault
+  fine : document.elements_faults (g.T.Element.faults (table_view l.fields.whole.now)) l.path (l.place + 1) (items_view (drop l.place l.items))
+      ≡ [];
 }

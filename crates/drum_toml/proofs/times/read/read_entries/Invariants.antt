@@ -1,5 +1,5 @@
-use Rattle.std.proofs.Common.{◌≡◌, ℕ, ◌<◌, Some, drop, length}
-use Rattle.std.specs.Prelude.{flat_map, slice_get, slice_index_or}
+use Rattle.std.proofs.Common.{◌≡◌, ℕ, ◌<◌, Some, length}
+use Rattle.std.specs.Prelude.{slice_get, slice_index_or}
 use Rattle.toml.specs.View.{table_view}
 use Rattle.drum_core.specs.declared.op.Op.{Op}
 use Rattle.drum_core.specs.Op.{number_of}
@@ -10,9 +10,6 @@ use Rattle.drum_toml.proofs.times.read.read_entries.Given as goal
 abbrev pub invariant-loop-at : goal.invariant-loop-at
 invariant-loop-at l = record {
   size : length l.entries ≡ 100;
-  -- the faults of the operations that are left are those of all
-  none : flat_map (document.operation_faults (table_view l.operations.table.now)) (drop l.at l.ops)
-      ≡ flat_map (document.operation_faults (table_view l.operations.table.now)) l.ops;
   -- the entries so far are said
   said : (k : ℕ) (op : Op) → k < l.at → slice_get l.ops k ≡ Some op
       → document.SaysOperation (table_view l.operations.table.now) op (slice_index_or l.entries (number_of op) blank);

@@ -1,50 +1,58 @@
--- Of read_entry: the keys that an entry may have follow from the form of its operation. The keys
--- are checked first, then the values that each entry has, then the others; the first check that
--- fails has the entry's first fault.
-use Rattle.std.proofs.Common.{◌≡◌, ℕ, List, [], ◌∙◌, ap, subst}
+-- The entry of a table that says one: its numbers are those at the keys.
+use Rattle.std.proofs.Common.{[], arith, refl, subst, sym}
+use Rattle.std.specs.Prelude.{codes}
 use Rattle.toml.specs.View.{table_view}
 use Rattle.drum_toml.specs.declared.times.read_entry.Form.{Form}
-use Rattle.drum_toml.specs.Document.{unknown_in}
-use Rattle.drum_toml.specs.TimesDocument as document
-use Rattle.drum_toml.proofs.EntryFaults.{wrong_keys, lacks_keys, wrong_plain}
-use Rattle.drum_toml.proofs.Sequences.{carried, known_anywhere}
+use Rattle.drum_toml.specs.TimesDocument.{HasRest}
+use Rattle.drum_toml.proofs.EntryFaults.{parity_is_right}
+use Rattle.drum_toml.proofs.NotesLaws.{has_same, same_number}
+use Rattle.drum_toml.proofs.Sequences.{no_faults}
+use Rattle.drum_toml.proofs.TimesEntries.{parity_said}
+use Rattle.drum_toml.proofs.TimesSaid.{there}
 use Rattle.drum_toml.proofs.times.read_entry.read_entry.Goals as goal
 
-pub returns-in_err-only-clause-first : goal.returns-in_err-only-clause-first
-returns-in_err-only-clause-first c =
-    carried c.from_residual.result _ c.in_err-only.field-0.0 c.from_residual.ensures.1
-    (wrong_keys c.args.fields.now.at.now (table_view c.args.fields.now.table.now) _ c.args.op _
-    (c.keys_of-keys.ensures ∙ ap document.keys_of c.form_of-form.ensures) c.in_err-only.ensures.first)
+pub read_rest-rest-requires : goal.read_rest-rest-requires
+read_rest-rest-requires c =
+    let entry = c.requires.0 in (
+      entry,
+      subst (λ (form : Form). HasRest form (table_view c.args.fields.now.table.now) entry.per entry.wait_min entry.wait_max)
+          (sym c.form_of.ensures) c.requires.1.others,
+    )
 
-pub returns-in_err-all-clause-first : goal.returns-in_err-all-clause-first
-returns-in_err-all-clause-first c =
-    carried c.from_residual-in_err-all.result _ c.in_err-all.field-0.0 c.from_residual-in_err-all.ensures.1
-    (lacks_keys c.args.fields.now.at.now (table_view c.args.fields.now.table.now) _ c.args.op _
-    (c.keys_of-keys.ensures ∙ ap document.keys_of c.form_of-form.ensures) c.in_ok-only.ensures.none
-    c.in_err-all.ensures.first)
+pub chosen-requires : goal.chosen-requires
+chosen-requires c =
+    let at = c.args.fields.now.at.now in
+    let fields = table_view c.args.fields.now.table.now in
+    no_faults _ _ (there at (codes "parity") [] fields _ c.requires.1.plain.parity refl)
+    (parity_is_right at fields c.requires.0.parity c.requires.1.plain.parity)
 
-pub returns-in_err-plain-clause-first : goal.returns-in_err-plain-clause-first
-returns-in_err-plain-clause-first c =
-    carried c.from_residual-in_err-plain.result _ c.in_err-plain.field-0.0 c.from_residual-in_err-plain.ensures.1
-    (wrong_plain c.args.fields.now.at.now (table_view c.args.fields.now.table.now) _ c.args.op _
-    (c.keys_of-keys.ensures ∙ ap document.keys_of c.form_of-form.ensures) c.in_ok-only.ensures.none
-    c.in_ok-all.ensures.none c.in_err-plain.ensures.first)
+pub invariant_of-result : goal.invariant_of-result
+invariant_of-result c =
+    let fields = table_view c.args.fields.now.table.now in
+    let entry = c.requires.0 in
+    let before = same_number fields (codes "before") entry.before _ c.number.ensures c.requires.1.plain.before in
+    let after = same_number fields (codes "after") entry.after _ c.number-2.ensures c.requires.1.plain.after in
+    record {
+      some_before = omega (arith, before, entry.some_before);
+      short_before = omega (arith, before, entry.short_before);
+      short_after = omega (arith, after, entry.short_after);
+      short_per = c.read_rest-rest.result.short_per;
+      waits = c.read_rest-rest.result.waits;
+      short_wait = c.read_rest-rest.result.short_wait;
+    }
 
-pub returns-clause-said : goal.returns-clause-said
-returns-clause-said c = record {
-  only =
-      known_anywhere c.args.fields.now.at.now [] (document.keys_of (document.form_of c.args.op))
-      (table_view c.args.fields.now.table.now)
-      (subst (λ (keys : List (List ℕ)). unknown_in c.args.fields.now.at.now keys
-      (table_view c.args.fields.now.table.now) ≡ [])
-      (c.keys_of-keys.ensures ∙ ap document.keys_of c.form_of-form.ensures) c.in_ok-only.ensures.none);
-  plain =
-      record {
-        before = c.in_ok-plain.ensures.said.before;
-        after = c.in_ok-plain.ensures.said.after;
-        parity = c.in_ok-plain.ensures.said.parity;
+pub returns : goal.returns
+returns c =
+    let fields = table_view c.args.fields.now.table.now in
+    let entry = c.requires.0 in
+    let rest = c.read_rest-rest.result in
+    record {
+      only = c.requires.1.only;
+      plain = record {
+        before = has_same fields (codes "before") entry.before _ c.number.ensures c.requires.1.plain.before;
+        after = has_same fields (codes "after") entry.after _ c.number-2.ensures c.requires.1.plain.after;
+        parity = parity_said fields c.chosen.result c.chosen.ensures;
       };
-  others =
-      subst (λ (form : Form). document.HasRest form (table_view c.args.fields.now.table.now) c.in_ok-rest.rest.per
-      c.in_ok-rest.rest.wait_min c.in_ok-rest.rest.wait_max) c.form_of-form.ensures c.in_ok-rest.ensures.said;
-}
+      others = subst (λ (form : Form). HasRest form fields rest.per rest.wait_min rest.wait_max) c.form_of.ensures
+          c.read_rest-rest.ensures;
+    }

@@ -2,7 +2,7 @@ use Rattle.toml.specs.View.{table_view}
 use Rattle.drum_core.specs.declared.op.Op.TheVariants.{NoOperation}
 use Rattle.drum_toml.proofs.Adding.{one_step}
 use Rattle.drum_toml.proofs.Repeating.{operations_left}
-use Rattle.drum_toml.proofs.TimesFaults.{keyed_at}
+use Rattle.drum_toml.proofs.TimesEntries.{keyed_at}
 use Rattle.drum_toml.proofs.document.faults.Faults.each_operation.Goals as goal
 
 pub operation-requires-clause-keyed : goal.operation-requires-clause-keyed

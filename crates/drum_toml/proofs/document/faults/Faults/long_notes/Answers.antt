@@ -9,8 +9,8 @@ returns c =
     (adds_more _ _ _ _ _ c.in_ok-missing.ensures
     (adds_more _ _ _ _ _ c.in_ok-choice.ensures
     (adds_more _ _ _ _ _ c.in_ok-choice-2.ensures
+    (adds_more _ _ _ _ _ c.in_ok-fine.ensures.adds
     (adds_more _ _ _ _ _ c.in_ok-tables.ensures
-    (adds_more _ _ _ _ _ c.in_ok-tables-2.ensures
-    (adds_more _ _ _ _ _ c.in_ok-tables-3.ensures (adds_none _))))))))
+    (adds_more _ _ _ _ _ c.in_ok-tables-2.ensures (adds_none _))))))))
     c.in_ok-repeated_marks.ensures)
     c.in_ok-repeated_lists.ensures

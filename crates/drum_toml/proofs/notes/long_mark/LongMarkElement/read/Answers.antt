@@ -1,93 +1,65 @@
--- Of LongMarkElement::read: the checks are made in the order of the definition's list
--- (long_mark_checks). Those before one that fails found nothing, so its fault is the first of the
--- mark.
-use Rattle.std.proofs.Common.{◌≡◌, ℕ, List, [], ◌∷◌, Bool, subst}
+-- A mark without a fault is the one that the table says.
+use Rattle.std.proofs.Common.{◌≡◌, ℕ, ◌+◌, ◌-◌, Bool, List, [], ◌∷◌, ◌∙◌, subst, sym, arith}
+use Rattle.std.specs.Prelude.{codes}
 use Rattle.toml.specs.View.{table_view}
 use Rattle.drum_times.specs.EdgeOf.{edge_of}
-use Rattle.drum_toml.specs.Document.{unknown_in}
+use Rattle.drum_toml.specs.Document.{at_key, missing_in}
 use Rattle.drum_toml.specs.LongNotes as said
-use Rattle.drum_toml.proofs.LongChecks as checks
-use Rattle.drum_toml.proofs.Sequences.{carried, known_anywhere}
+use Rattle.drum_toml.proofs.Faultless.{each_none}
+use Rattle.drum_toml.proofs.LongFaultless.{long_mark_said, name_of, proper_name}
+use Rattle.drum_toml.proofs.NotesLaws.{has_same, same_number}
 use Rattle.drum_toml.proofs.notes.long_mark.LongMarkElement.read.Goals as goal
 
-pub returns-in_err-only_known-clause-first : goal.returns-in_err-only_known-clause-first
-returns-in_err-only_known-clause-first c =
-    let document = table_view c.args.fields.now.whole.now in
+pub read_mark_edges-requires-clause-wanted : goal.read_mark_edges-requires-clause-wanted
+read_mark_edges-requires-clause-wanted c =
     let fields = table_view c.args.fields.now.table.now in
-    let at = c.args.fields.now.at.now in
-    carried c.from_residual.result _ c.in_err-only_known.field-0.0 c.from_residual.ensures.1
-    (checks.first_unknown document fields c.args.place at c.lists_edges-listed.result c.lists_edges-listed.ensures
-    c.in_err-only_known.field-0.0 c.in_err-only_known.ensures.first)
+    let each = each_none (said.long_mark_checks (table_view c.args.fields.now.whole.now) (c.args.place + 1)
+    c.args.fields.now.at.now fields) c.requires in
+    subst (λ (b : Bool). missing_in c.args.fields.now.at.now (said.wanted_keys b) fields ≡ []) (sym c.lists_edges.ensures)
+    each.1.0
 
-pub returns-in_err-all_wanted-clause-first : goal.returns-in_err-all_wanted-clause-first
-returns-in_err-all_wanted-clause-first c =
-    let document = table_view c.args.fields.now.whole.now in
+pub read_mark_edges-requires-clause-right : goal.read_mark_edges-requires-clause-right
+read_mark_edges-requires-clause-right c =
     let fields = table_view c.args.fields.now.table.now in
-    let at = c.args.fields.now.at.now in
-    carried c.from_residual-in_err-all_wanted.result _ c.in_err-all_wanted.field-0.0 c.from_residual-in_err-all_wanted.ensures.1
-    (checks.first_missing document fields c.args.place at c.lists_edges-listed.result c.lists_edges-listed.ensures
-    c.in_ok-only_known.ensures.none c.in_err-all_wanted.field-0.0 c.in_err-all_wanted.ensures.first)
+    let each = each_none (said.long_mark_checks (table_view c.args.fields.now.whole.now) (c.args.place + 1)
+    c.args.fields.now.at.now fields) c.requires in
+    subst (λ (b : Bool). said.edge_checks b c.args.fields.now.at.now fields ≡ []) (sym c.lists_edges.ensures) each.1.1.0
 
-pub returns-in_err-edges-clause-first : goal.returns-in_err-edges-clause-first
-returns-in_err-edges-clause-first c =
-    let document = table_view c.args.fields.now.whole.now in
+pub read_name-requires : goal.read_name-requires
+read_name-requires c =
     let fields = table_view c.args.fields.now.table.now in
-    let at = c.args.fields.now.at.now in
-    carried c.from_residual-in_err-edges.result _ c.in_err-edges.field-0.0 c.from_residual-in_err-edges.ensures.1
-    (checks.first_edge document fields c.args.place at c.lists_edges-listed.result c.lists_edges-listed.ensures
-    c.in_ok-only_known.ensures.none c.in_ok-all_wanted.ensures.none c.in_err-edges.field-0.0 c.in_err-edges.ensures.first)
+    let mark = long_mark_said (table_view c.args.fields.now.whole.now) c.args.place c.args.fields.now.at.now fields
+    c.requires in
+    proper_name _ c.args.place fields mark.0.name mark.1.name
 
-pub returns-in_err-most-clause-first : goal.returns-in_err-most-clause-first
-returns-in_err-most-clause-first c =
+pub read_outer-requires : goal.read_outer-requires
+read_outer-requires c =
     let document = table_view c.args.fields.now.whole.now in
     let fields = table_view c.args.fields.now.table.now in
-    let at = c.args.fields.now.at.now in
-    carried c.from_residual-in_err-most.result _ c.in_err-most.field-0.0 c.from_residual-in_err-most.ensures.1
-    (checks.first_most document fields c.args.place at c.lists_edges-listed.result c.lists_edges-listed.ensures
-    c.in_ok-only_known.ensures.none c.in_ok-all_wanted.ensures.none
-    c.in_ok-edges.ensures.none c.in_err-most.field-0.0 c.in_err-most.ensures.first)
+    let each = each_none (said.long_mark_checks document (c.args.place + 1) c.args.fields.now.at.now fields) c.requires in
+    let earlier : c.args.place + 1 - 1 ≡ c.args.place = omega arith in
+    subst (λ (n : ℕ). at_key (said.outer_faults (said.names_in document) n) c.args.fields.now.at.now (codes "inside")
+    fields ≡ []) earlier each.1.1.1.1.0
 
-pub returns-in_err-inside-clause-first : goal.returns-in_err-inside-clause-first
-returns-in_err-inside-clause-first c =
-    let document = table_view c.args.fields.now.whole.now in
+pub invariant_of-result : goal.invariant_of-result
+invariant_of-result c =
     let fields = table_view c.args.fields.now.table.now in
-    let at = c.args.fields.now.at.now in
-    carried c.from_residual-in_err-inside.result _ c.in_err-inside.field-0.0 c.from_residual-in_err-inside.ensures.1
-    (checks.first_outer document fields c.args.place at c.lists_edges-listed.result c.lists_edges-listed.ensures
-    c.in_ok-only_known.ensures.none c.in_ok-all_wanted.ensures.none
-    c.in_ok-edges.ensures.none _ c.in_ok-most.ensures.found c.in_ok-most.ensures.high c.in_err-inside.field-0.0 c.in_err-inside.ensures.first)
+    let mark = long_mark_said (table_view c.args.fields.now.whole.now) c.args.place c.args.fields.now.at.now fields
+    c.requires in
+    let most = same_number fields (codes "most") mark.0.most _ c.number.ensures mark.1.most in
+    record { four_digits = omega (arith, most, mark.0.four_digits) }
 
-pub returns-in_err-name-clause-first : goal.returns-in_err-name-clause-first
-returns-in_err-name-clause-first c =
+pub returns : goal.returns
+returns c =
     let document = table_view c.args.fields.now.whole.now in
     let fields = table_view c.args.fields.now.table.now in
-    let at = c.args.fields.now.at.now in
-    carried c.from_residual-in_err-name.result _ c.in_err-name.field-0.0 c.from_residual-in_err-name.ensures.1
-    (checks.first_name document fields c.args.place at c.lists_edges-listed.result c.lists_edges-listed.ensures
-    c.in_ok-only_known.ensures.none c.in_ok-all_wanted.ensures.none
-    c.in_ok-edges.ensures.none _ c.in_ok-most.ensures.found c.in_ok-most.ensures.high c.in_ok-inside.ensures.none c.in_err-name.field-0.0 c.in_err-name.ensures.first)
-
-pub returns-clause-none : goal.returns-clause-none
-returns-clause-none c =
-    let document = table_view c.args.fields.now.whole.now in
-    let fields = table_view c.args.fields.now.table.now in
-    let at = c.args.fields.now.at.now in
-    checks.none_wrong document fields c.args.place at c.lists_edges-listed.result c.lists_edges-listed.ensures
-    c.in_ok-only_known.ensures.none c.in_ok-all_wanted.ensures.none c.in_ok-edges.ensures.none _
-    c.in_ok-most.ensures.found c.in_ok-most.ensures.high c.in_ok-inside.ensures.none c.in_ok-name.ensures.none
-
-pub returns-clause-said : goal.returns-clause-said
-returns-clause-said c =
-    let document = table_view c.args.fields.now.whole.now in
-    let fields = table_view c.args.fields.now.table.now in
-    let at = c.args.fields.now.at.now in
-    let is = c.lists_edges-listed.ensures in
+    let mark = long_mark_said document c.args.place c.args.fields.now.at.now fields c.requires in
     let edges : List (ℕ × ℕ) = edge_of c.in_ok-edges.edges.first ∷ c.in_ok-edges.edges.others in
     record {
-      only = known_anywhere at [] (said.long_mark_keys (said.lists_edges fields)) fields
-          (subst (λ (b : Bool). unknown_in at (said.long_mark_keys b) fields ≡ []) is c.in_ok-only_known.ensures.none);
-      edges = subst (λ (b : Bool). said.HasEdges b fields edges) is c.in_ok-edges.ensures.said;
-      most = c.in_ok-most.ensures.found;
-      inside = c.in_ok-inside.ensures.said;
-      name = c.in_ok-name.ensures.said;
+      only = mark.1.only;
+      edges = subst (λ (b : Bool). said.HasEdges b fields edges) c.lists_edges.ensures c.in_ok-edges.ensures;
+      most = has_same fields (codes "most") mark.0.most _ c.number.ensures mark.1.most;
+      inside = c.read_outer.ensures;
+      name = subst (said.HasName (said.names_in document) c.args.place fields)
+          (sym (c.in_ok-name.ensures ∙ name_of _ c.args.place fields mark.0.name mark.1.name)) mark.1.name;
     }

@@ -1,82 +1,30 @@
--- Of CallElement::read: the checks are made in the order of the definition's list (call_checks).
--- Those before one that fails found nothing, so its fault is the first of the call.
-use Rattle.std.proofs.Common.{refl, [], ◌+◌}
+-- A call without a fault is the one that the table says: it has the same locations.
+use Rattle.std.proofs.Common.{◌≡◌, Option, Some, ap, sym, ◌∙◌, take}
 use Rattle.toml.specs.View.{table_view}
-use Rattle.drum_toml.specs.Calls as said
-use Rattle.drum_toml.proofs.CallChecks as checks
-use Rattle.drum_toml.proofs.NotesFaults.{nth_in}
-use Rattle.drum_toml.proofs.Sequences.{carried, known_anywhere}
+use Rattle.drum_times.specs.declared.notes.call.Call.{Call}
+use Rattle.drum_toml.specs.Calls.{Opening, is_opened, opening_of, openings_in}
+use Rattle.drum_toml.proofs.CallsSaid.{call_said}
+use Rattle.drum_toml.proofs.CallsSound.{opening_is}
 use Rattle.drum_toml.proofs.notes.read_call.CallElement.read.Goals as goal
 
-pub returns-in_err-only-clause-first : goal.returns-in_err-only-clause-first
-returns-in_err-only-clause-first c =
+pub returns : goal.returns
+returns c =
     let document = table_view c.args.fields.now.whole.now in
     let fields = table_view c.args.fields.now.table.now in
-    carried c.from_residual.result _ c.in_err-only.field-0.0 c.from_residual.ensures.1
-    (nth_in (said.call_checks document (c.args.place + 1) c.args.fields.now.at.now fields) 0 _ _ refl tt
-    c.in_err-only.ensures.first)
-
-pub returns-in_err-all-clause-first : goal.returns-in_err-all-clause-first
-returns-in_err-all-clause-first c =
-    let document = table_view c.args.fields.now.whole.now in
-    let fields = table_view c.args.fields.now.table.now in
-    carried c.from_residual-in_err-all.result _ c.in_err-all.field-0.0 c.from_residual-in_err-all.ensures.1
-    (checks.first_missing document fields c.args.place c.args.fields.now.at.now
-    c.in_ok-only.ensures.none
-    c.in_err-all.field-0.0 c.in_err-all.ensures.first)
-
-pub returns-in_err-from-clause-first : goal.returns-in_err-from-clause-first
-returns-in_err-from-clause-first c =
-    let document = table_view c.args.fields.now.whole.now in
-    let fields = table_view c.args.fields.now.table.now in
-    carried c.from_residual-in_err-from.result _ c.in_err-from.field-0.0 c.from_residual-in_err-from.ensures.1
-    (checks.first_from document fields c.args.place c.args.fields.now.at.now
-    c.in_ok-only.ensures.none c.in_ok-all.ensures.none
-    c.in_err-from.field-0.0 c.in_err-from.ensures.first)
-
-pub returns-in_err-onto-clause-first : goal.returns-in_err-onto-clause-first
-returns-in_err-onto-clause-first c =
-    let document = table_view c.args.fields.now.whole.now in
-    let fields = table_view c.args.fields.now.table.now in
-    carried c.from_residual-in_err-onto.result _ c.in_err-onto.field-0.0 c.from_residual-in_err-onto.ensures.1
-    (checks.first_onto document fields c.args.place c.args.fields.now.at.now
-    c.in_ok-only.ensures.none c.in_ok-all.ensures.none c.in_ok-from.from c.in_ok-from.ensures.found
-    c.in_err-onto.field-0.0 c.in_err-onto.ensures.first)
-
-pub returns-in_err-exit-clause-first : goal.returns-in_err-exit-clause-first
-returns-in_err-exit-clause-first c =
-    let document = table_view c.args.fields.now.whole.now in
-    let fields = table_view c.args.fields.now.table.now in
-    carried c.from_residual-in_err-exit.result _ c.in_err-exit.field-0.0 c.from_residual-in_err-exit.ensures.1
-    (checks.first_exit document fields c.args.place c.args.fields.now.at.now
-    c.in_ok-only.ensures.none c.in_ok-all.ensures.none c.in_ok-from.from c.in_ok-from.ensures.found
-    c.in_ok-onto.onto c.in_ok-onto.ensures.found
-    c.in_err-exit.field-0.0 c.in_err-exit.ensures.first)
-
-pub returns-in_err-back-clause-first : goal.returns-in_err-back-clause-first
-returns-in_err-back-clause-first c =
-    let document = table_view c.args.fields.now.whole.now in
-    let fields = table_view c.args.fields.now.table.now in
-    carried c.from_residual-in_err-back.result _ c.in_err-back.field-0.0 c.from_residual-in_err-back.ensures.1
-    (checks.first_back document fields c.args.place c.args.fields.now.at.now
-    c.in_ok-only.ensures.none c.in_ok-all.ensures.none c.in_ok-from.from c.in_ok-from.ensures.found
-    c.in_ok-onto.onto c.in_ok-onto.ensures.found c.in_ok-exit.exit c.in_ok-exit.ensures.found c.in_ok-exit.ensures.new
-    c.in_err-back.field-0.0 c.in_err-back.ensures.first)
-
-pub returns-clause-said : goal.returns-clause-said
-returns-clause-said c =
-    let fields = table_view c.args.fields.now.table.now in
+    let said = call_said document c.args._place c.args.fields.now.at.now fields c.requires in
+    let call : Call = record {
+      edge = record { from = c.location.result; onto = c.location-2.result };
+      exit = c.location-3.result;
+      back = c.location-4.result;
+    } in
+    let same : ◌≡◌ {A = Option Opening} (Some (opening_of call)) (Some (opening_of said.0)) =
+    sym (opening_is fields call c.location.ensures c.location-2.ensures c.location-3.ensures)
+    ∙ opening_is fields said.0 said.1.from said.1.onto said.1.exit in
     record {
-      only = known_anywhere c.args.fields.now.at.now [] said.call_keys fields c.in_ok-only.ensures.none;
-      from = c.in_ok-from.ensures.found;
-      onto = c.in_ok-onto.ensures.found;
-      exit = c.in_ok-exit.ensures.found;
-      back = c.in_ok-back.ensures.found;
-      new = checks.new_call (table_view c.args.fields.now.whole.now) fields c.args.place
-          (record {
-            edge = record { from = c.in_ok-from.from; onto = c.in_ok-onto.onto };
-            exit = c.in_ok-exit.exit;
-            back = c.in_ok-back.back;
-          })
-          c.in_ok-from.ensures.found c.in_ok-onto.ensures.found c.in_ok-exit.ensures.found c.in_ok-exit.ensures.new;
+      only = said.1.only;
+      from = c.location.ensures;
+      onto = c.location-2.ensures;
+      exit = c.location-3.ensures;
+      back = c.location-4.ensures;
+      new = ap (is_opened (take c.args._place (openings_in document))) same ∙ said.1.new;
     }

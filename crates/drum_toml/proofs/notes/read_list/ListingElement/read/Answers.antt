@@ -1,39 +1,46 @@
-use Rattle.std.proofs.Common.{refl, []}
-use Rattle.std.specs.Prelude.{codes}
+-- A list without a fault is the one that the table says, with as many patterns as there may be.
+use Rattle.std.proofs.Common.{◌++◌, Option, Some, [], length, refl, subst, sym, arith}
+use Rattle.std.proofs.lemmas.Bool.{and_parts, leb-true}
+use Rattle.std.specs.Prelude.{IsSome, codes, nat_le}
+use Rattle.toml.specs.Data.{Data, get_member}
 use Rattle.toml.specs.View.{table_view}
-use Rattle.drum_toml.specs.Document.{location}
 use Rattle.drum_toml.specs.NotesDocument as said
-use Rattle.drum_toml.proofs.NotesFaults.{nth_in}
-use Rattle.drum_toml.proofs.Sequences.{carried, first_there, known_anywhere}
+use Rattle.drum_toml.proofs.Faultless.{each_none, value_there}
+use Rattle.drum_toml.proofs.NotesFaultless.{tables_counted}
+use Rattle.drum_toml.proofs.Sequences.{known_anywhere}
+use Rattle.drum_toml.proofs.TablesFaults.{array_fine}
 use Rattle.drum_toml.proofs.notes.read_list.ListingElement.read.Goals as goal
 
-pub returns-in_err-only-clause-first : goal.returns-in_err-only-clause-first
-returns-in_err-only-clause-first c =
-    carried c.from_residual.result _ c.in_err-only.field-0.0 c.from_residual.ensures.1
-    (nth_in (said.list_checks c.args.fields.now.at.now (table_view c.args.fields.now.table.now)) 0 _ _ refl tt
-    c.in_err-only.ensures.first)
+pub elements-requires : goal.elements-requires
+elements-requires c =
+    let at = c.args.fields.now.at.now in
+    let fields = table_view c.args.fields.now.table.now in
+    array_fine 1 (Some 64) said.pattern_faults (at ++ codes "pattern") (get_member (codes "pattern") fields)
+    (each_none (said.list_checks at fields) c.requires).1.1.1.0
 
-pub returns-in_err-all-clause-first : goal.returns-in_err-all-clause-first
-returns-in_err-all-clause-first c =
-    carried c.from_residual-in_err-all.result _ c.in_err-all.field-0.0 c.from_residual-in_err-all.ensures.1
-    (nth_in (said.list_checks c.args.fields.now.at.now (table_view c.args.fields.now.table.now)) 1 _ _ refl
-    (c.in_ok-only.ensures.none, tt) c.in_err-all.ensures.first)
+pub invariant_of-result : goal.invariant_of-result
+invariant_of-result c =
+    let at = c.args.fields.now.at.now in
+    let fields = table_view c.args.fields.now.table.now in
+    let each = each_none (said.list_checks at fields) c.requires in
+    let has = value_there at said.list_keys fields (codes "pattern") each.1.0 refl in
+    let patterns = c.in_ok-elements.field-0.items in
+    let count = tables_counted (λ place one pattern. said.IsPattern one pattern) said.pattern_faults 1 (Some 64)
+    (at ++ codes "pattern") (get_member (codes "pattern") fields) patterns each.1.1.1.0 c.in_ok-elements.ensures
+    (subst (λ (found : Option Data). IsSome found) (sym has.1) refl) in
+    let both = and_parts (nat_le 1 (length patterns)) (nat_le (length patterns) 64) count in
+    let many = c.in_ok-elements.field-0.ok.0 in
+    record {
+      some = omega (arith, many, leb-true 1 (length patterns) both.0);
+      few = omega (arith, many, leb-true (length patterns) 64 both.1);
+    }
 
-pub returns-in_err-location-clause-first : goal.returns-in_err-location-clause-first
-returns-in_err-location-clause-first c =
-    carried c.from_residual-in_err-location.result _ c.in_err-location.field-0.0
-    c.from_residual-in_err-location.ensures.1
-    (nth_in (said.list_checks c.args.fields.now.at.now (table_view c.args.fields.now.table.now)) 2 _ _ refl
-    (c.in_ok-only.ensures.none, (c.in_ok-all.ensures.none, tt))
-    (first_there c.args.fields.now.at.now said.list_keys (table_view c.args.fields.now.table.now) (codes "location")
-    (location c.args.fields.now.at.now (codes "location") (table_view c.args.fields.now.table.now)) _
-    c.in_ok-all.ensures.none refl c.in_err-location.ensures.first))
-
-pub returns-clause-said : goal.returns-clause-said
-returns-clause-said c = record {
-  only =
-      known_anywhere c.args.fields.now.at.now [] said.list_keys (table_view c.args.fields.now.table.now)
-      c.in_ok-only.ensures.none;
-  location = c.in_ok-location.ensures.found;
-  patterns = c.in_ok-patterns.ensures.said;
-}
+pub returns : goal.returns
+returns c =
+    let at = c.args.fields.now.at.now in
+    let fields = table_view c.args.fields.now.table.now in
+    record {
+      only = known_anywhere at [] said.list_keys fields (each_none (said.list_checks at fields) c.requires).0;
+      location = c.location.ensures;
+      patterns = c.in_ok-elements.ensures;
+    }

@@ -1,69 +1,34 @@
--- Of PatternElement::read: the checks are made in the order of the definition's list
--- (pattern_checks). Those before one that fails found nothing, so its fault is the first of the
--- pattern.
-use Rattle.std.proofs.Common.{refl, [], arith}
+-- A pattern without a fault is the one that the table says: its numbers are those at the keys.
+use Rattle.std.proofs.Common.{arith}
 use Rattle.std.specs.Prelude.{codes}
 use Rattle.toml.specs.View.{table_view}
-use Rattle.drum_toml.specs.Document.{whole}
-use Rattle.drum_toml.specs.NotesDocument as said
-use Rattle.drum_toml.proofs.EntryFaults.{number_is_right}
-use Rattle.drum_toml.proofs.NotesFaults.{nth_in, wrong_d_to}
-use Rattle.drum_toml.proofs.Sequences.{carried, first_there, known_anywhere}
+use Rattle.drum_toml.proofs.NotesFaultless.{pattern_said}
+use Rattle.drum_toml.proofs.NotesLaws.{has_same, same_number}
 use Rattle.drum_toml.proofs.notes.read_list.PatternElement.read.Goals as goal
 
-pub returns-in_err-only-clause-first : goal.returns-in_err-only-clause-first
-returns-in_err-only-clause-first c =
-    carried c.from_residual.result _ c.in_err-only.field-0.0 c.from_residual.ensures.1
-    (nth_in (said.pattern_checks c.args.fields.now.at.now (table_view c.args.fields.now.table.now)) 0 _ _ refl tt
-    c.in_err-only.ensures.first)
+pub invariant_of-result : goal.invariant_of-result
+invariant_of-result c =
+    let fields = table_view c.args.fields.now.table.now in
+    let said = pattern_said c.args._place c.args.fields.now.at.now fields c.requires in
+    let op = same_number fields (codes "op") said.0.op _ c.number.ensures said.1.op in
+    let from = same_number fields (codes "d_from") said.0.d_from _ c.number-2.ensures said.1.d_from in
+    let to = same_number fields (codes "d_to") said.0.d_to _ c.number-3.ensures said.1.d_to in
+    let i = same_number fields (codes "i") said.0.i _ c.number-4.ensures said.1.i in
+    record {
+      two = omega (arith, op, said.0.two);
+      ordered = omega (arith, from, to, said.0.ordered);
+      four = omega (arith, to, said.0.four);
+      next_four = omega (arith, i, said.0.next_four);
+    }
 
-pub returns-in_err-all-clause-first : goal.returns-in_err-all-clause-first
-returns-in_err-all-clause-first c =
-    carried c.from_residual-in_err-all.result _ c.in_err-all.field-0.0 c.from_residual-in_err-all.ensures.1
-    (nth_in (said.pattern_checks c.args.fields.now.at.now (table_view c.args.fields.now.table.now)) 1 _ _ refl
-    (c.in_ok-only.ensures.none, tt) c.in_err-all.ensures.first)
-
-pub returns-in_err-op-clause-first : goal.returns-in_err-op-clause-first
-returns-in_err-op-clause-first c =
-    carried c.from_residual-in_err-op.result _ c.in_err-op.field-0.0 c.from_residual-in_err-op.ensures.1
-    (nth_in (said.pattern_checks c.args.fields.now.at.now (table_view c.args.fields.now.table.now)) 2 _ _ refl
-    (c.in_ok-only.ensures.none, (c.in_ok-all.ensures.none, tt))
-    (first_there c.args.fields.now.at.now said.pattern_keys (table_view c.args.fields.now.table.now) (codes "op")
-    (whole 0 99 c.args.fields.now.at.now (codes "op") (table_view c.args.fields.now.table.now)) _
-    c.in_ok-all.ensures.none refl c.in_err-op.ensures.first))
-
-pub returns-in_err-d_from-clause-first : goal.returns-in_err-d_from-clause-first
-returns-in_err-d_from-clause-first c =
-    carried c.from_residual-in_err-d_from.result _ c.in_err-d_from.field-0.0 c.from_residual-in_err-d_from.ensures.1
-    (nth_in (said.pattern_checks c.args.fields.now.at.now (table_view c.args.fields.now.table.now)) 3 _ _ refl (
-      c.in_ok-only.ensures.none,
-      (
-        c.in_ok-all.ensures.none,
-        (
-          number_is_right c.args.fields.now.at.now (codes "op") (table_view c.args.fields.now.table.now) 0 99 _
-              c.in_ok-op.ensures.found (omega arith) c.in_ok-op.ensures.high,
-          tt,
-        ),
-      ),
-    )
-    (first_there c.args.fields.now.at.now said.pattern_keys (table_view c.args.fields.now.table.now)
-    (codes "d_from") (whole 0 9999 c.args.fields.now.at.now (codes "d_from")
-    (table_view c.args.fields.now.table.now)) _ c.in_ok-all.ensures.none refl c.in_err-d_from.ensures.first))
-
-pub returns-in_err-d_to-clause-first : goal.returns-in_err-d_to-clause-first
-returns-in_err-d_to-clause-first c =
-    carried c.from_residual-in_err-d_to.result _ c.in_err-d_to.field-0.0 c.from_residual-in_err-d_to.ensures.1
-    (wrong_d_to c.args.fields.now.at.now (table_view c.args.fields.now.table.now) _ _ _ c.in_ok-only.ensures.none
-    c.in_ok-all.ensures.none c.in_ok-op.ensures.found c.in_ok-op.ensures.high c.in_ok-d_from.ensures.found
-    c.in_ok-d_from.ensures.high c.in_err-d_to.ensures.first)
-
-pub returns-clause-said : goal.returns-clause-said
-returns-clause-said c = record {
-  only =
-      known_anywhere c.args.fields.now.at.now [] said.pattern_keys (table_view c.args.fields.now.table.now)
-      c.in_ok-only.ensures.none;
-  op = c.in_ok-op.ensures.found;
-  d_from = c.in_ok-d_from.ensures.found;
-  d_to = c.in_ok-d_to.ensures.found;
-  i = c.in_ok-i.ensures.found;
-}
+pub returns : goal.returns
+returns c =
+    let fields = table_view c.args.fields.now.table.now in
+    let said = pattern_said c.args._place c.args.fields.now.at.now fields c.requires in
+    record {
+      only = said.1.only;
+      op = has_same fields (codes "op") said.0.op _ c.number.ensures said.1.op;
+      d_from = has_same fields (codes "d_from") said.0.d_from _ c.number-2.ensures said.1.d_from;
+      d_to = has_same fields (codes "d_to") said.0.d_to _ c.number-3.ensures said.1.d_to;
+      i = has_same fields (codes "i") said.0.i _ c.number-4.ensures said.1.i;
+    }
