@@ -4,6 +4,7 @@ pub mod FirstVisits
 pub mod KindSums
 pub mod Laid
 pub mod LineCounts
+mod LineWeights
 pub mod LineSums
 pub mod Lists
 pub mod Passing

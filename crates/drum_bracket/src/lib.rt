@@ -21,12 +21,12 @@
 //! Proofs. `PriceText` is a mark's line, and `RoundsLines` are a walk's, of their pieces. `Lists`
 //! has what stands where in a list, and `EndLaws` where hops begin. `Passing` has lines that are
 //! told one after the other, and what room they take; `Tellings` how pieces are told, and how long
-//! they take; `Totals` that the whole takes the walk's time; `LineCounts`, by `LineSums`, how many
-//! lines there are at most; `Starts` a walk from its beginning. `Laid` puts a walk's hops beside
-//! those of its pieces. Of the waits: `RowSteps` (the rows of kinds, with a piece more), `RowRoom`
-//! (no sum is too large), `KindSums` (what is added up over a walk's hops is added up over pieces),
-//! `PieceAt` (the piece that a loop is at), `FirstComings` and `FirstVisits` (what comes first),
-//! and by these `RoundsWaitsFound`; `WholeWaits` (what all hops wait).
+//! they take; `Totals` that the whole takes the walk's time; `LineCounts`, by `LineSums` and
+//! `LineWeights`, how many lines there are at most; `Starts` a walk from its beginning. `Laid` puts
+//! a walk's hops beside those of its pieces. Of the waits: `RowSteps` (the rows of kinds, with a
+//! piece more), `RowRoom` (no sum is too large), `KindSums` (what is added up over a walk's hops is
+//! added up over pieces), `PieceAt` (the piece that a loop is at), `FirstComings` and `FirstVisits`
+//! (what comes first), and by these `RoundsWaitsFound`; `WholeWaits` (what all hops wait).
 #![tactic(auto)]
 
 mod counts;
