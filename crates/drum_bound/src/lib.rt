@@ -11,17 +11,19 @@
 //! there, and raises it. `cells/entries` is the map that is the table, and `cells/key_hasher` its
 //! hasher. `scan` takes each key in turn, and each of its hops. Of a finished scan `trace` makes
 //! the walk, followed back, with its passes, as visits of `drum_walks`. `analysing` has `analyse`,
-//! and `analysis` what that hands out. `bounding` has `bound`, which makes no walk.
+//! and `analysis` what that hands out. `bounding` has `bound`, which makes no walk: its contract is
+//! that no run which keeps to the notes takes longer, and that some walk takes as long.
 //!
-//! Definitions, in the order to read them, behind `Worst` of `drum_walks`, which is what the bound
-//! is: `Table` is what the table is, with its entries and the one start angle, `Ends` the ends that
-//! raise its entries, `Under` how a run arrives under them, `AnalysisOf` what an analysis hands
-//! out, `BoundOf` what the bound alone is, and `Counted` how many ends a ledger counts where it is
-//! found. The others are how it is found, and a reader of the theorem's clauses needs only `row_in`
-//! of `RowOf`. `Digits`, `Keys`, `Scanned` and `TakenOf` are definitions. `EndOf`, `KeysOf`,
-//! `LeapOf`, `RecentOf` and `RoundOf` say what the code's types mean by them. `Kept` says how the
-//! table that is raised holds what is kept at a key. `Held` (what is kept at all keys), `SearchOf`,
-//! `ScanOf` and `ToEnd` say what is asked where an end is made.
+//! Definitions, in the order to read them, behind `Worst` of `drum_walks`, the longest time of a
+//! walk, and `Bounded` of `drum_flow`, that of runs: `Table` is what the table is, with its entries
+//! and the one start angle, `Ends` the ends that raise its entries, `Under` how a run arrives under
+//! them, `AnalysisOf` what an analysis hands out, `BoundOf` what the bound is, of runs and of
+//! walks, and `Counted` how many ends a ledger counts where it is found. The others are how it is
+//! found, and a reader of the theorem's clauses needs only `row_in` of `RowOf`. `Digits`, `Keys`,
+//! `Scanned` and `TakenOf` are definitions. `EndOf`, `KeysOf`, `LeapOf`, `RecentOf` and `RoundOf`
+//! say what the code's types mean by them. `Kept` says how the table that is raised holds what is
+//! kept at a key. `Held` (what is kept at all keys), `SearchOf`, `ScanOf` and `ToEnd` say what is
+//! asked where an end is made.
 //!
 //! Proofs. Laws of numbers of counts (`DigitsLaws`), of leaps that serve more hops (`Recents`), of
 //! keys (`KeyLaws`, `Onward`) and of rounds (`RoundLaws`). Laws of what is held, by entry

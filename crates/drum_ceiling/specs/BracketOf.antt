@@ -1,4 +1,5 @@
--- When a ceiling with a walk in rounds is right.
+-- When a ceiling with a walk in rounds is right: the ceiling by `IsCeiling`, and the walk, with the
+-- time that the line `reached` tells, by `SpellOut` of `drum_rounds`.
 use Rattle.drum_deck.specs.declared.deck.Deck.{Deck}
 use Rattle.drum_times.specs.declared.times.Times.{Times}
 use Rattle.drum_times.specs.Allowed.{Notes}

@@ -6,7 +6,8 @@
 //! tables `by_site`. `prices` tells what an edge takes at prices, `rounds` what a mark's price has
 //! to be, once others have theirs, by the `ways` round it and their `cycles`, and `settling` gives
 //! the marks their prices in an `order`. `levels` sums up what walks take on from each site.
-//! `tries` looks for a better order and higher prices, and what it comes to is `found`.
+//! `tries` looks for a better order and higher prices, with the limits of how long, and what it
+//! comes to is `found`.
 #![tactic(auto)]
 
 mod by_site;

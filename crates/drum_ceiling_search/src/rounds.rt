@@ -10,7 +10,7 @@ use drum_rows::SiteRow;
 use std::alloc::{AllocError, Global};
 
 /// How many times it is looked for cycles at most, for each head and beside.
-const MOST_LOOKS: usize = 4;
+const MOST_SEARCHES: usize = 4;
 
 /// The tables that a mark's rounds are looked for with.
 #[derive(Drop)]
@@ -74,7 +74,7 @@ impl Rounds {
         least: i128,
     ) -> i128 {
         let mut price = least;
-        for _ in 0..heads.len().saturating_mul(MOST_LOOKS) {
+        for _ in 0..heads.len().saturating_mul(MOST_SEARCHES) {
             price = self.cycles.mean(heads, &self.ways, &self.ahead).max(price);
             if !self.owe(heads, price) {
                 return price;

@@ -1,4 +1,5 @@
-//! Laws of the definitions of `drum_bound`.
+//! Laws of the definitions of `drum_bound`: of the numbers of counts, and of slower timing tables.
+//! (That no run takes longer than the bound is the contract of `bound`, in `drum_bound`.)
 
 ghost use Rattle.std.specs.Prelude.{◌≡◌, ◌≤◌, ℕ, List};
 ghost use Rattle.drum_core.specs.declared.op.Op.{Op};

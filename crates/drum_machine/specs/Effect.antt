@@ -156,7 +156,7 @@ branches_on c digit d i =
     if digit == 8 then goes c d else (if digit == 9 then goes c i else stops c why.Digit)
 
 -- A card's words go into words 01 to 10 of D's band; a load card goes on at D. (No step comes here
--- without a card: it has stopped at x.)
+-- without a card: it has stopped at x, by `lacks_card` of `Step`.)
 abbrev pub reads : Contents → List Card → ℕ → ℕ → Outcome
 reads c [] d i = stops c why.Card
 reads c (card ∷ cards) d i =

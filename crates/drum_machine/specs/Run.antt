@@ -17,6 +17,7 @@ pub record Stride : Type 0 where
 -- the stride is a step from this state
 pub record IsStride (times : Op → Entry) (s : State) (stride : Stride) : Type 0 where
   pub from_here : stride.origin ≡ s
+  -- any wait of the entry's range (`IsWait` of `Timing`)
   pub may_wait : MayWait times (op_of (instruction_in s).op) stride.wait
   pub stepped : stride.outcome ≡ step times s stride.wait
 

@@ -11,13 +11,14 @@
 //! `left` is how a run left the notes, and `verdict` what is found of a run.
 //!
 //! Definitions, in the order to read them: `Contents` (what a machine holds), `Effect` (what an
-//! operation does to it, and which stop it meets), `Timing` (the moments of a step: when its word
-//! is found, when it is ready, has its data and ends; and the units of its work), `Step`, `Run`.
-//! Then `Counts` (how often marks are passed), `Since` (what these counts are, over all edges of a
-//! run), `Calls` (which exits calls open, and where these go back) and `Keeps` (when a run keeps to
-//! the notes, and which way of leaving them comes first). Then `Writes` and `Ways`, which the flow
-//! graph is made of, and `Ending`, by which way a step ended. The others say what the code's types
-//! mean by these: `CountsIn`, `OpenIn`, `WaysLeft`.
+//! operation does to it, and which stop it meets once it acts), `Timing` (the moments of a step:
+//! when its word is found, when it is ready, has its data and ends; and the units of its work),
+//! `Step` (one step, with the stops before its operation acts: no operation, no operand, no card)
+//! and `Run` (one step after the other). Then `Counts` (how often marks are passed), `Since` (what
+//! these counts are, over all edges of a run), `Calls` (which exits calls open, and where these go
+//! back) and `Keeps` (when a run keeps to the notes, and which way of leaving them comes first).
+//! Then `Writes` and `Ways`, which the flow graph is made of, and `Ending`, by which way a step
+//! ended. The others say what the code's types mean by these: `CountsIn`, `OpenIn`, `WaysLeft`.
 //!
 //! Proofs. These have laws that other crates use: `Alone`, which drum words stay (it stands on
 //! `Going`: what an effect leaves, its step leaves); `Ends`, by which way a step ends, and when;

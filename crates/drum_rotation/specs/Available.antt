@@ -1,4 +1,5 @@
 -- The angles at which a word can be had (IBM 650 Manual of Operation, of the drum's words alone).
+-- The wait for one is told by `first` of `Moment`.
 use Rattle.std.specs.Prelude.{ℕ, ◌%◌, Bool, true, ◌==◌}
 use Rattle.drum_core.specs.declared.location.Kind.{Kind}
 use Rattle.drum_core.specs.declared.location.Kind.TheVariants.{Drum, Switches, Distributor, Lower}

@@ -1,6 +1,7 @@
 -- The first moment at which the drum's angle has a property. A clock counts word times from a
 -- moment of angle 0 on, and a revolution has 50 (IBM 650 Manual of Operation), so the angle at a
--- clock is the rest of its division by 50.
+-- clock is the rest of its division by 50. (`found`, in `Timing` of `drum_machine`, makes it the
+-- moment at which a word is had.)
 use Rattle.std.specs.Prelude.{◌≡◌, ℕ, zero, suc, ◌+◌, ◌%◌, ◌≤◌, Bool, true, if◌then◌else◌}
 
 -- It is a moment at or after the clock at which the angle has the property, and no such moment is

@@ -1,6 +1,7 @@
 //! Each call that takes memory, in a window where it may be refused, and before and behind that
 //! with all the memory that it wants. What it answers with memory is held by the cases and other
-//! tests.
+//! tests. A new call is a variant of `Call` with its arm in `make`, and in `spent` where it spends
+//! something; of `Answer` with its arm in `is_out_of_memory`; and a line here.
 
 use crate::calls::Call;
 use crate::subjects::{SUBJECTS, documents};

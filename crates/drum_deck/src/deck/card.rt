@@ -4,7 +4,8 @@ use crate::spaced::read_words;
 use drum_core::Word;
 use drum_core::numeral::read_digits;
 
-/// The most words on a card.
+/// The most words on a card. (A line with eight is as long as a line may be, `Deck::LINE`, and no
+/// card; one with nine is too long.)
 const WORDS: usize = 7;
 
 /// A card of a deck: words for consecutive locations.

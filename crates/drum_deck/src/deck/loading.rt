@@ -1,3 +1,6 @@
+//! A deck, loaded line by line, or why a line is refused. What a line may be is told by `line` and
+//! `card`; a line that is too long is refused in `read`, before it comes here.
+
 ghost use Rattle.std.specs.Prelude.{◌≡◌, ℕ, ◌+◌, ◌<◌, ◌≤◌, ◌⊎◌, vec_len, length, take, slice_get};
 ghost use Rattle.std.specs.Prelude.{OnOk, IfErr};
 ghost use Rattle.drum_deck.specs.FirstLoaded.{IsFirstLoaded};
