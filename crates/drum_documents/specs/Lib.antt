@@ -2,7 +2,6 @@ pub mod Asked
 pub mod Documents
 pub mod Files
 pub mod Joined
-pub mod Limits
 pub mod PartsOf
 pub mod TextsHeld
 pub mod TextsOf

@@ -1,34 +1,29 @@
 //! The documents of the program, a deck, a timing table and notes, as files and the joined form
-//! hold them: which files are opened, in which order, how each is read, and what limits a run of
-//! what they say.
+//! hold them: which files are opened, in which order, and how each is read.
 //!
-//! Code, from the bottom up. `documents` is a deck with its timing table and notes. `limits` has
-//! what documents have as a bound, as a ceiling, and what limits a run of theirs: the bound or,
-//! past the limit of one and of long notes, a ceiling. A `source` opens files and takes each text
-//! back. `files` reads a file to its limit, and the documents and the inputs that files hold;
-//! `texts` reads the texts alone, for a check. `joined` has the parts of a joined form, and
-//! `joined_input` the documents of one.
+//! Code, from the bottom up. `documents` is a deck with its timing table and notes. A `source` opens
+//! files and takes each text back. `files` reads a file to its limit, and the documents and the
+//! inputs that files hold; `texts` reads the texts alone, for a check. `joined` has the parts of a
+//! joined form, and `joined_input` the documents of one.
 //!
-//! Definitions, in the order to read them: `Documents` says which texts say documents, and `Limits`
-//! what is known of these. Then come the texts of a joined form (`Joined`) and of files (`Files`,
-//! of a check `TextsHeld`). `Asked` is what is asked of a source: which files, in which order.
-//! `PartsOf` and `TextsOf` are the texts as the code holds them.
+//! Definitions, in the order to read them: `Documents` says which texts say documents. Then come
+//! the texts of a joined form (`Joined`) and of files (`Files`, of a check `TextsHeld`). `Asked` is
+//! what is asked of a source: which files, in which order. `PartsOf` and `TextsOf` are the texts as
+//! the code holds them.
 //!
 //! Proofs. Of the joined form `Cuts`, `Joining` and `Giving`; of files `Asking`, `Refusing` and
-//! `Unread`; of what limits a run `Limiting`. `Asking` and `Limiting` serve crates above too.
+//! `Unread`. `Asking` serves crates above too.
 #![tactic(auto)]
 
 mod documents;
 mod files;
 mod joined;
 mod joined_input;
-mod limits;
 mod source;
 mod texts;
 
 pub use documents::Documents;
 pub use files::{documents_in, documents_with_inputs};
 pub use joined_input::documents_of;
-pub use limits::{bound_of, bracket_of, ceiling_of, limit_of};
 pub use source::Source;
 pub use texts::{Texts, texts_with_inputs};

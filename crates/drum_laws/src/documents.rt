@@ -7,7 +7,7 @@ ghost use Rattle.drum_ceiling.specs.CeilingOf.{total_of};
 ghost use Rattle.drum_lines.specs.declared.limit.Limit.{Limit};
 ghost use Rattle.drum_documents.specs.declared.documents.Documents.{Documents};
 ghost use Rattle.drum_documents.specs.Documents.{setting_of};
-ghost use Rattle.drum_documents.specs.Limits.{IsCeiling, IsLimit};
+ghost use Rattle.drum_limits.specs.Limits.{IsCeiling, IsLimit};
 
 use crate::acceptance::accepted_is_not_refused;
 

@@ -5,7 +5,7 @@
 //!
 //! Code. `pictures` has `picture`, `picture_in_rounds` and `picture_of_run`. Each finds what is
 //! shown, the scene of `drum_scene`, and has `drum_drawing` draw it. `of_analysis` finds it of an
-//! analysis, `of_bracket` of a ceiling with its walk, and `of_run` of a `run`, which takes in one
+//! analysis, `of_rounds` of a walk in rounds, and `of_run` of a `run`, which takes in one
 //! step after the other. `hops` finds the revolutions that are shown in a list of hops. Of a walk
 //! in rounds `pieces` tells what each piece takes and how often it comes, and `going` goes through
 //! them, hop by hop.
@@ -14,7 +14,7 @@
 mod going;
 mod hops;
 mod of_analysis;
-mod of_bracket;
+mod of_rounds;
 mod of_run;
 mod pictures;
 mod pieces;

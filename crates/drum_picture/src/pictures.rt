@@ -1,14 +1,14 @@
 //! The whole picture.
 
 use crate::of_analysis::of_analysis;
-use crate::of_bracket::of_bracket;
+use crate::of_rounds::of_rounds;
 use crate::of_run::of_run;
 use crate::run::Run;
 use drum_bound::Analysis;
-use drum_ceiling::Bracket;
 use drum_deck::Deck;
 use drum_drawing::draw;
 use drum_machine::Verdict;
+use drum_rounds::InRounds;
 use drum_times::{Notes, Times};
 use std::alloc::{AllocError, Global};
 
@@ -29,21 +29,22 @@ pub fn picture(
     draw(alloc, &of_analysis(alloc, analysis, deck, times)?)
 }
 
-/// The picture of a walk in rounds, beside a ceiling: the same, but that each piece of the walk is
-/// shown once, with its rounds beside it. It means something where the ceiling and its walk are of
-/// this deck with this timing table and these notes. No clause says what it is.
+/// The picture of a walk in rounds, beside a ceiling (in word times): the same, but that each piece
+/// of the walk is shown once, with its rounds beside it. It means something where the walk and the
+/// ceiling are of this deck with this timing table and these notes. No clause says what it is.
 ///
 /// # Errors
 ///
 /// [`AllocError`] where there is no memory.
 pub fn picture_in_rounds(
     alloc: Global,
-    bracket: &Bracket,
+    walk: &InRounds,
+    ceiling: u128,
     deck: &Deck,
     times: &Times,
     notes: &Notes,
 ) -> Result<String, AllocError> {
-    draw(alloc, &of_bracket(alloc, bracket, deck, times, notes)?)
+    draw(alloc, &of_rounds(alloc, walk, ceiling, deck, times, notes)?)
 }
 
 /// The picture of a run with this verdict, of which all steps were taken in: the same as that of an

@@ -6,8 +6,8 @@ use Rattle.drum_flow.specs.SettingOf.{setting}
 use Rattle.drum_flow.specs.Bounded.{IsBounded}
 use Rattle.drum_documents.specs.declared.documents.Documents.{Documents}
 use Rattle.drum_documents.specs.Documents.{setting_of}
-use Rattle.drum_documents.specs.Limits.{IsLimit}
-use Rattle.drum_documents.proofs.Limiting.{bounded_by}
+use Rattle.drum_limits.specs.Limits.{IsLimit}
+use Rattle.drum_limits.proofs.Limiting.{bounded_by}
 use Rattle.drum_replay.specs.declared.coverage.Coverage.{Coverage}
 use Rattle.drum_replay.specs.declared.replaying.Begun.{Begun}
 use Rattle.drum_replay.specs.Begun.{IsBegun, IsTraceBegun}

@@ -9,7 +9,7 @@ use Rattle.drum_walks.specs.Worst.{IsWorst}
 use Rattle.drum_machine.specs.declared.verdict.Verdict.{Verdict}
 use Rattle.drum_machine.specs.declared.verdict.Verdict.TheVariants.{Left}
 use Rattle.drum_documents.specs.declared.documents.Documents.{Documents}
-use Rattle.drum_documents.specs.Limits.{IsLimit}
+use Rattle.drum_limits.specs.Limits.{IsLimit}
 use Rattle.drum_documents.specs.Documents.{setting_of}
 use Rattle.drum_replay.specs.declared.replaying.Begun.{Begun}
 use Rattle.drum_replay.specs.declared.replaying.BegunTrace.{BegunTrace}

@@ -27,7 +27,7 @@ use Rattle.drum_machine.specs.declared.verdict.Verdict.{Verdict}
 use Rattle.drum_machine.specs.declared.verdict.Verdict.TheVariants.{Kept, Left}
 use Rattle.drum_lines.specs.declared.limit.Limit.{Limit}
 use Rattle.drum_documents.specs.declared.documents.Documents.{Documents}
-use Rattle.drum_documents.specs.Limits.{IsLimit, IsLimitRefusal}
+use Rattle.drum_limits.specs.Limits.{IsLimit, IsLimitRefusal}
 use Rattle.drum_documents.specs.Documents.{setting_of}
 
 -- what a machine is set up with and fed with

@@ -11,7 +11,7 @@ use Rattle.drum_lines.specs.VerdictText.{verdict_text}
 use Rattle.drum_hop_lines.specs.TraceText.{stride_lines}
 use Rattle.drum_documents.specs.declared.documents.Documents.{Documents}
 use Rattle.drum_documents.specs.Documents.{setting_of}
-use Rattle.drum_documents.specs.Limits.{IsLimit}
+use Rattle.drum_limits.specs.Limits.{IsLimit}
 use Rattle.drum_replay.specs.Coverage.{coverage_lines}
 use Rattle.drum_replay.specs.Replay.{Given, HasOwnWords, IsReplay, IsTraced, IsTracedInPart}
 

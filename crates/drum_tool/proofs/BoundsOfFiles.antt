@@ -11,13 +11,13 @@ use Rattle.drum_documents.specs.declared.documents.Documents.{Documents}
 use Rattle.drum_toml.specs.declared.notes.notes_read.NotesRead.TheVariants.{Short}
 use Rattle.drum_lines.specs.declared.fault.Fault.{Fault}
 use Rattle.drum_lines.specs.declared.fault.Fault.TheVariants as faults
-use Rattle.drum_documents.specs.Limits.{IsAnalysisFault, IsBound}
+use Rattle.drum_limits.specs.Limits.{IsAnalysisFault, IsBound}
 use Rattle.drum_documents.specs.Asked.{files_sought, named, named_in}
 use Rattle.drum_documents.specs.Files.{AreHeld, AreNotHeld, AreTold, FilesTold, Contents}
 use Rattle.drum_lines.specs.declared.part.Part.TheVariants as part
 use Rattle.drum_tool.specs.Commands.{AnswersCommand, Replies}
 use Rattle.drum_lines.specs.Reply.{Reply, bound_reply, fault_reply}
-use Rattle.drum_tool.specs.Says.{SaysBound}
+use Rattle.drum_answers.specs.Says.{SaysBound}
 use Rattle.drum_tool.specs.BoundOfFiles.{IsBoundOfFiles}
 use Rattle.drum_tool.specs.Words.{AreRefused, refused_reply}
 

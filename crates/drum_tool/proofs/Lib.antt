@@ -1,7 +1,5 @@
-pub mod Bases
 mod BoundsOfFiles
 mod Doing
-pub mod Early
 mod Looking
 mod OfNoFile
 mod Replies

@@ -14,10 +14,11 @@ use Rattle.drum_lines.specs.FaultStatus.{failed_reads}
 use Rattle.drum_lines.specs.FaultStatus.{IsOutOfMemory}
 use Rattle.drum_documents.specs.declared.documents.Documents.{Documents}
 use Rattle.drum_documents.specs.Asked.{part_of}
-use Rattle.drum_documents.specs.Limits.{IsLimit, IsLimitRefusal, IsRefusedFor}
+use Rattle.drum_limits.specs.Limits.{IsLimit, IsLimitRefusal, IsRefusedFor}
 use Rattle.drum_documents.specs.Documents.{setting_of, Texts}
 use Rattle.drum_replay.specs.Replay.{Given, IsReplayFault, IsRunFault, IsTraceFault}
-use Rattle.drum_tool.specs.Says.{Refuses, RefusesCheck}
+use Rattle.drum_answers.specs.Says.{Refuses}
+use Rattle.drum_tool.specs.SaysCheck.{RefusesCheck}
 use Rattle.drum_tool.specs.DoesCommand.{IsOfNoFile}
 
 pub refused_of_none : (Is : Refusal → Type 0) (fault : Fault) → IsRefusedFor Is fault → IsOfNoFile fault

@@ -4,7 +4,7 @@ use Rattle.std.specs.List.{list_all}
 use Rattle.clap.specs.Words.{Text}
 use Rattle.drum_command.specs.Line.{begins_with_hyphen}
 use Rattle.drum_documents.specs.declared.documents.Documents.{Documents}
-use Rattle.drum_documents.specs.Limits.{IsBound}
+use Rattle.drum_limits.specs.Limits.{IsBound}
 use Rattle.drum_documents.specs.Files.{HoldsDeck, HoldsTimes, HoldsNotes}
 use Rattle.drum_documents.specs.Joined.{Joins}
 

@@ -16,7 +16,7 @@ use Rattle.drum_documents.specs.declared.documents.Documents.{Documents}
 use Rattle.drum_documents.specs.Documents.{Texts, Say}
 use Rattle.drum_tool.specs.declared.checking.Checked.{Checked}
 use Rattle.drum_tool.specs.declared.checking.Checked.TheVariants.{Faulty, Sound}
-use Rattle.drum_tool.specs.Says.{AreLinesOfFaults}
+use Rattle.drum_tool.specs.SaysCheck.{AreLinesOfFaults}
 
 -- The lines of the texts' faults, if they have any; else what is found of the documents that they
 -- say.

@@ -20,9 +20,10 @@ use Rattle.drum_documents.specs.Files.{Contents}
 use Rattle.drum_documents.specs.Joined.{Gives, GivesNone}
 use Rattle.drum_documents.specs.TextsHeld.{AreNoneHeld, AreTextsHeld, IsInputsText}
 use Rattle.drum_replay.specs.Given.{given}
-use Rattle.drum_documents.specs.Limits.{IsAnalysisFault}
+use Rattle.drum_limits.specs.Limits.{IsAnalysisFault}
 use Rattle.drum_replay.specs.Replay.{Given, IsReplayFault, IsTraceFault}
-use Rattle.drum_tool.specs.Says.{Refuses, RefusesCheck, Says, SaysBound, SaysCheck}
+use Rattle.drum_answers.specs.Says.{Refuses, Says, SaysBound}
+use Rattle.drum_tool.specs.SaysCheck.{RefusesCheck, SaysCheck}
 use Rattle.drum_lines.specs.Reply.{Reply}
 use Rattle.drum_replay.specs.RunReply.{SaysRunPicture, SaysTrace, SaysVerdict}
 use Rattle.drum_lines.specs.Reply.{fault_reply}

@@ -4,7 +4,8 @@ ghost use Rattle.std.specs.Prelude.{◌≡◌, [], IfOk, IfErr, ◌≤◌, ◌^�
 ghost use Rattle.drum_deck.specs.InDeck.{loads_in, start_in};
 ghost use Rattle.drum_toml.specs.declared.notes.notes_read.NotesRead.TheVariants.{Long};
 ghost use Rattle.drum_lines.specs.FaultStatus.{IsOutOfMemory};
-ghost use Rattle.drum_finding.specs.Lacking.{are_long, words_altered};
+ghost use Rattle.drum_lines.specs.Output.{GetsResult, device};
+ghost use Rattle.drum_finding.specs.Lacking.{are_long, check_text, words_altered};
 ghost use Rattle.drum_finding.specs.LackingOf.{words_in};
 ghost use Rattle.drum_check.specs.Findings.{AreFindings};
 ghost use Rattle.drum_check.specs.FindingsOf.{found_in, is_long_in};
@@ -12,18 +13,19 @@ ghost use Rattle.drum_faults.specs.NamedTexts.{named};
 ghost use Rattle.drum_documents.specs.Documents.{Say};
 ghost use Rattle.drum_documents.specs.TextsOf.{inputs_in, texts_in};
 ghost use Rattle.drum_documents.specs.Asked.{name_in};
-ghost use Rattle.drum_documents.specs.Limits.{IsDiscoveryFault};
+ghost use Rattle.drum_limits.specs.Limits.{IsDiscoveryFault};
 ghost use Rattle.drum_tool.specs.Checked.{AreLacking, IsChecked, IsMemoryOfText, IsShort};
-ghost use Rattle.drum_tool.specs.Says.{AreLinesOfFaults, RefusesCheck};
+ghost use Rattle.drum_tool.specs.SaysCheck.{AreLinesOfFaults, RefusesCheck, status_after_check};
 
 use drum_check::Findings;
 use drum_command::Files;
 use drum_deck::laws::not_refused;
+use drum_devices::Output;
 use drum_documents::{Documents, Texts};
 use drum_faults::laws::sound_where_none;
 use drum_faults::{NamedText, fault_lines};
 use drum_finding::Lacking;
-use drum_lines::Fault;
+use drum_lines::{Fault, Status, ended};
 use drum_toml::NotesRead;
 use drum_toml::laws::{says_long_notes, says_times};
 use std::alloc::Global;
@@ -150,4 +152,28 @@ pub fn check(
     let documents = sound_documents(alloc, files, texts, inputs)?;
     let (findings, lacking) = findings_of(alloc, &documents)?;
     Ok(Checked::Sound(findings, lacking))
+}
+
+/// How the program ends after what was found: a word that nothing comes to may be meant so, and a
+/// mark that doesn't say that it stands inside another one.
+fn status_of(findings: &Findings) -> Status
+    ensures { result ≡ status_after_check (found_in findings.now) }
+{
+    if findings.may_be_meant() {
+        Status::Done
+    } else {
+        Status::Refused
+    }
+}
+
+/// Writes all that keeps a deck from having a bound, and what is lacking.
+pub fn tell_findings<O: Output>(out: &mut O, findings: &Findings, lacking: &Lacking) -> Status
+    requires called { O.called out.old ≤ 2 ^ 62 }
+    requires right { words_in lacking.now ≡ words_altered (found_in findings.now) }
+    ensures { GetsResult (device (O.written out.old) (O.failed out.old))
+        (device (O.written out.new) (O.failed out.new))
+        (check_text (is_long_in findings.now) (found_in findings.now))
+        (status_after_check (found_in findings.now)) result }
+{
+    ended(findings.list(lacking, out), status_of(findings))
 }

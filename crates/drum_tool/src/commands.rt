@@ -13,9 +13,8 @@ ghost use Rattle.drum_tool.specs.Commands.{AnswersCommand};
 ghost use Rattle.drum_tool.specs.DoesCommand.{DoesCommand};
 ghost use Rattle.drum_tool.specs.Words.{LooksAsTold};
 
-use crate::answering::answer_question;
-use crate::checking::{Checked, check, named_inputs};
-use crate::telling::tell_findings;
+use crate::checking::{Checked, check, named_inputs, tell_findings};
+use drum_answers::answer_question;
 use drum_command::{Command, Files, Question};
 use drum_devices::Output;
 use drum_documents::{Source, documents_in, documents_with_inputs, texts_with_inputs};

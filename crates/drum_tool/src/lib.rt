@@ -2,32 +2,25 @@
 //! what goes out.
 //!
 //! Code, from the top down. `running` has `run` and `run_joined`, the program. `commands` has
-//! `run_command`: what each command does with its files. `answering` is what is said of documents
-//! where a question is asked of them: by their `analysis`, or by a `basis` where it is of a worst
-//! walk. `checking` checks texts: their faults, or what is found of the documents. `telling` writes
-//! what is said to standard output. `laws` has laws of the definitions.
+//! `run_command`: what each command does with its files. `checking` checks texts: their faults, or
+//! what is found of the documents. (What is said of documents where a question is asked of them is
+//! `drum_answers`' part.) `laws` has laws of the definitions.
 //!
 //! Definitions, in the order to read them: `Commands` is the reply to a command, by what its files
-//! hold, and to a joined form, and `Words` that to the program's words. `Says` is what is said of
-//! documents and of texts, and why nothing is. `BoundOfFiles` is the bound of files and of a joined
-//! form, for the two laws that say in a sentence what `bound` prints. `DoesCommand`, `Basis` and
-//! `Checked` say what the code means by what is done for a command, by what a worst walk is told
-//! by, and by a check.
+//! hold, and to a joined form, and `Words` that to the program's words. `SaysCheck` is what a check
+//! says of texts, and why nothing. `BoundOfFiles` is the bound of files and of a joined form, for
+//! the two laws that say in a sentence what `bound` prints. `DoesCommand` and `Checked` say what
+//! the code means by what is done for a command, and by a check.
 //!
 //! Proofs. `Looking` has what is asked of a source; `Doing`, `OfNoFile`, `Replies`, `Worded` and
 //! `BoundsOfFiles` are of the program's replies. `Soundly` shows that texts without faults are
-//! refused for lack of memory alone, and `Bases` why there is nothing to tell a worst walk by;
-//! `Early` has how long the walk beside a ceiling takes at most.
+//! refused for lack of memory alone.
 #![tactic(auto)]
 
-mod analysis;
-mod answering;
-mod basis;
 mod checking;
 mod commands;
 pub mod laws;
 mod running;
-mod telling;
 
 pub use commands::run_command;
 pub use drum_bound::{Analysis, Refusal, Way, analyse, bound};

@@ -14,7 +14,8 @@ ghost use Rattle.drum_tool.specs.Words.{Answers, Asks, ReadsAll, refused_reply};
 use crate::commands::run_command;
 use drum_command::{Refused, read_words};
 use drum_devices::{Input, Output};
-use drum_documents::{Source, bound_of, documents_of};
+use drum_documents::{Source, documents_of};
+use drum_limits::bound_of;
 use drum_lines::{Fault, Part, PartFault, Status, tell_bound, tell_fault, tell_text, tell_usage};
 use std::alloc::Global;
 

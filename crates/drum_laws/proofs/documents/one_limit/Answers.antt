@@ -2,8 +2,8 @@ use Rattle.std.proofs.Common.{◌≡◌, ℕ, inl, inr, refl}
 use Rattle.drum_deck.specs.InDeck.{loads_in, start_in}
 use Rattle.drum_flow.specs.declared.refusal.Refusal.TheVariants as refusal
 use Rattle.drum_lines.specs.declared.limit.Limit.TheVariants as limit
-use Rattle.drum_documents.specs.Limits.{AreShort, HaveNoBound, IsBound}
-use Rattle.drum_documents.proofs.Limiting.{short_or_long}
+use Rattle.drum_limits.specs.Limits.{AreShort, HaveNoBound, IsBound}
+use Rattle.drum_limits.proofs.Limiting.{short_or_long}
 use Rattle.drum_laws.proofs.documents.one_limit.Goals as goal
 
 pub returns : goal.returns

@@ -7,7 +7,7 @@ use Rattle.drum_faults.specs.NamedTexts.{named}
 use Rattle.drum_documents.specs.Documents.{SayNone, texts_of}
 use Rattle.drum_documents.specs.TextsOf.{texts_in}
 use Rattle.drum_toml.specs.declared.notes.notes_read.NotesRead.TheVariants.{Long}
-use Rattle.drum_tool.specs.Says.{in_file_of}
+use Rattle.drum_tool.specs.SaysCheck.{in_file_of}
 use Rattle.drum_tool.proofs.Soundly.{only_memory}
 use Rattle.drum_tool.proofs.checking.sound_documents.Goals as goal
 

@@ -17,7 +17,7 @@ use Rattle.drum_documents.specs.TextsHeld.{IsInputsText}
 use Rattle.drum_tool.specs.declared.checking.Checked.{Checked}
 use Rattle.drum_tool.specs.declared.checking.Checked.TheVariants.{Faulty, Sound}
 use Rattle.drum_tool.specs.Checked.{IsChecked}
-use Rattle.drum_tool.specs.Says.{findings_reply, status_after_check}
+use Rattle.drum_tool.specs.SaysCheck.{findings_reply, status_after_check}
 use Rattle.drum_tool.proofs.Looking.{of_file, of_none}
 use Rattle.drum_tool.proofs.OfNoFile.{check_of_none}
 use Rattle.drum_tool.proofs.commands.check_files.Goals as goal

@@ -1,0 +1,48 @@
+use Rattle.std.proofs.Common.{List, ◌++◌, ◌∙◌, ℕ, flat_map, inr, refl, ap, subst}
+use Rattle.drum_times.specs.Entries.{entry_in}
+use Rattle.drum_rounds.specs.InRounds as walks
+use Rattle.drum_ceiling.specs.CeilingOf.{total_of}
+use Rattle.drum_lines.specs.declared.status.Status.TheVariants.{Done}
+use Rattle.drum_lines.specs.Output.{GetsResult, device}
+use Rattle.drum_lines.proofs.NoLine.{no_line}
+use Rattle.drum_hop_lines.specs.declared.waited.Waited.{Waited}
+use Rattle.drum_hop_lines.specs.KindsOf.{waited_line}
+use Rattle.drum_hop_lines.specs.WaitsText.{wait_line}
+use Rattle.drum_bracket.specs.CeilingText.{total_lines}
+use Rattle.drum_bracket.proofs.RowRoom.{hops_seen, spelled_out}
+use Rattle.drum_documents.specs.Documents.{setting_of}
+use Rattle.drum_answers.specs.Says.{rounds_waits_reply}
+use Rattle.drum_answers.proofs.Early.{soon_over}
+use Rattle.drum_answers.proofs.answering.say_rounds_waits.Goals as goal
+
+pub of-requires-clause-right : goal.of-requires-clause-right
+of-requires-clause-right g c =
+    (c.args.documents.now.deck, (c.args.documents.now.notes, c.requires.right.walk))
+
+pub of-requires-clause-early : goal.of-requires-clause-early
+of-requires-clause-early g c = soon_over c.args.documents.now c.args.bracket.now c.requires.right
+
+pub returns-clause-does : goal.returns-clause-does
+returns-clause-does g c err =
+    let documents = c.args.documents.now in
+    let bracket = c.args.bracket.now in
+    let right = c.requires.right.walk in
+    let visits = hops_seen documents.deck documents.times documents.notes bracket.walk right in
+    let out = spelled_out documents.deck documents.times documents.notes bracket.walk right in
+    let waits = c.in_ok-waits.ensures (setting_of documents) visits refl out in
+    let reached = walks.total_of bracket.walk in
+    let totals = total_lines reached (total_of bracket.ceiling) in
+    let kinds = flat_map (wait_line (entry_in documents.times) (walks.angle_of bracket.walk) visits) waits.0 in (
+      rounds_waits_reply documents bracket visits waits.0,
+      inr (c.requires.none, bracket, c.requires.right, (visits, out, waits.0, waits.1, refl)),
+      no_line _ _,
+      (
+        subst (λ (text : List ℕ). GetsResult (device (g.O.Output.written c.args.out.now) (g.O.Output.failed c.args.out.now))
+            (device (g.O.Output.written c.tell_rounds_waits.new.out) (g.O.Output.failed c.tell_rounds_waits.new.out))
+            text Done c.tell_rounds_waits.result)
+            (ap (λ (lines : List ℕ). lines ++ waited_line reached c.in_ok-waits.waits.waited ++ totals) waits.2
+            ∙ ap (λ (waited : Waited). kinds ++ waited_line reached waited ++ totals) waits.3)
+            c.tell_rounds_waits.ensures,
+        refl,
+      ),
+    )

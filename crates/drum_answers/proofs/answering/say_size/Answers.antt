@@ -1,0 +1,36 @@
+use Rattle.std.proofs.Common.{◌≡◌, ℕ, List, length, ap, ◌∙◌, refl, subst}
+use Rattle.drum_deck.specs.InDeck.{loads_in}
+use Rattle.drum_bound.specs.AnalysisOf.{rows_of}
+use Rattle.drum_flow.specs.Accepted.{counts_of}
+use Rattle.drum_lines.specs.declared.status.Status.TheVariants.{Done}
+use Rattle.drum_lines.specs.Output.{GetsResult, device}
+use Rattle.drum_lines.proofs.NoLine.{no_line}
+use Rattle.drum_listing.specs.SizeText.{hops_among, size_text}
+use Rattle.drum_answers.specs.Says.{size_reply}
+use Rattle.drum_answers.proofs.answering.say_size.Goals as goal
+
+pub returns-clause-does : goal.returns-clause-does
+returns-clause-does g c err =
+    let documents = c.args.documents.now in
+    let is = c.in_ok-analysis.ensures in
+    let size = c.in_ok-size.size in
+    let right = c.in_ok-size.ensures in
+    let rows = rows_of c.in_ok-analysis.analysis in
+    let words = length right.executed in
+    let hops = hops_among (loads_in documents.deck) documents.notes right.executed in
+    let told : c.in_ok-text.text.items ≡ size_text words hops (counts_of documents.notes.marks) (length rows) =
+    c.in_ok-text.ensures.text
+    ∙ ap (λ (n : ℕ). size_text n size.hops size.counts size.keys) right.words
+    ∙ ap (λ (n : ℕ). size_text words n size.counts size.keys) right.hops
+    ∙ ap (λ (n : ℕ). size_text words hops n size.keys) (right.counts ∙ is.counts)
+    ∙ ap (size_text words hops (counts_of documents.notes.marks)) right.keys in
+    let old = device (g.O.Output.written c.args.out.now) (g.O.Output.failed c.args.out.now) in
+    let new = device (g.O.Output.written c.tell_text.new.out) (g.O.Output.failed c.tell_text.new.out) in
+    let gets =
+    subst (λ (said : List ℕ). GetsResult old new said Done c.tell_text.result) (c.deref.ensures.value ∙ told)
+    c.tell_text.ensures in (
+      size_reply documents right.executed rows,
+      (is.accepted, right.executed, right.found, rows, is.table, refl),
+      no_line _ _,
+      (gets, refl),
+    )

@@ -1,0 +1,2 @@
+pub mod Basis
+pub mod Says

@@ -1,0 +1,292 @@
+//! The answers to questions about documents, each written to an output.
+
+ghost use Rattle.std.specs.Prelude.{◌≡◌, ◌^◌, ◌≤◌, IfOk, IfErr};
+ghost use Rattle.drum_lines.specs.Does.{Does};
+ghost use Rattle.drum_lines.specs.Output.{Device, device};
+ghost use Rattle.drum_limits.specs.Limits.{HaveNoBound, IsAnalysisFault, IsBracket};
+ghost use Rattle.drum_limits.specs.Limits.{IsCeilingFault, IsDiscoveryFault};
+ghost use Rattle.drum_answers.specs.Basis.{IsBasis};
+ghost use Rattle.drum_answers.specs.declared.basis.Basis.TheVariants as bases;
+ghost use Rattle.drum_answers.specs.Says.{ByEither, Refuses, Says, SaysBound};
+ghost use Rattle.drum_answers.specs.Says.{SaysCeiling, SaysGraph, SaysOutline, SaysPicture};
+ghost use Rattle.drum_answers.specs.Says.{SaysPictureInRounds, SaysReport, SaysRounds};
+ghost use Rattle.drum_answers.specs.Says.{SaysRoundsWaits};
+ghost use Rattle.drum_answers.specs.Says.{SaysSize, SaysTable, SaysWaits, SaysWalk};
+
+use crate::analysis::analysis_of;
+use crate::basis::{Basis, basis_of};
+use crate::telling::{
+    tell_ceiling, tell_graph, tell_report, tell_rounds, tell_rounds_waits, tell_table, tell_waits,
+    tell_walk,
+};
+use drum_bound::{Analysis, Refusal};
+use drum_bracket::{Outline, WaitsInRounds};
+use drum_ceiling::Bracket;
+use drum_command::Question;
+use drum_devices::Output;
+use drum_documents::Documents;
+use drum_graph::Graph;
+use drum_limits::{bound_of, bracket_of};
+use drum_lines::{Fault, Status, tell_bound, tell_text};
+use drum_listing::{Size, Table, Waits};
+use drum_picture::{picture, picture_in_rounds};
+use std::alloc::{AllocError, Global};
+
+/// The most bytes of a picture that is printed.
+const PICTURE_BYTES: usize = 1 << 61;
+
+/// Writes the bound.
+fn say_bound<O: Output>(alloc: Global, documents: &Documents, out: &mut O) -> Result<Status, Fault>
+    requires { O.called out.old ≤ 2 ^ 62 }
+    ensures does { (err : Device) → Does (SaysBound documents.now) (IsAnalysisFault documents.now)
+        (device (O.written out.old) (O.failed out.old))
+        (device (O.written out.new) (O.failed out.new)) err err result }
+    ensures spared { IfErr result (λ _. out.new ≡ out.old) }
+{
+    let bound = bound_of(alloc, documents)?;
+    Ok(tell_bound(out, bound))
+}
+
+/// Writes the report.
+fn say_report<O: Output>(alloc: Global, documents: &Documents, out: &mut O) -> Result<Status, Fault>
+    requires { O.called out.old ≤ 2 ^ 62 }
+    ensures does { (err : Device) → Does (SaysReport documents.now) (IsAnalysisFault documents.now)
+        (device (O.written out.old) (O.failed out.old))
+        (device (O.written out.new) (O.failed out.new)) err err result }
+    ensures spared { IfErr result (λ _. out.new ≡ out.old) }
+{
+    let analysis = analysis_of(alloc, documents)?;
+    Ok(tell_report(out, documents, &analysis))
+}
+
+/// Writes the walk beside a ceiling.
+fn say_rounds<O: Output>(
+    alloc: Global,
+    documents: &Documents,
+    bracket: &Bracket,
+    out: &mut O,
+) -> Result<Status, Fault>
+    requires called { O.called out.old ≤ 2 ^ 62 }
+    requires none { HaveNoBound documents.now }
+    requires right { IsBracket documents.now bracket.now }
+    ensures does { (err : Device) → Does (ByEither SaysWalk SaysRounds documents.now)
+        (IsCeilingFault documents.now)
+        (device (O.written out.old) (O.failed out.old))
+        (device (O.written out.new) (O.failed out.new)) err err result }
+    ensures spared { IfErr result (λ _. out.new ≡ out.old) }
+{
+    let outline = Outline::of(alloc, &bracket.walk)?;
+    Ok(tell_rounds(out, documents, bracket, outline))
+}
+
+/// Writes a worst walk.
+fn say_walk<O: Output>(alloc: Global, documents: &Documents, out: &mut O) -> Result<Status, Fault>
+    requires { O.called out.old ≤ 2 ^ 62 }
+    ensures does { (err : Device) → Does (ByEither SaysWalk SaysRounds documents.now)
+        (IsCeilingFault documents.now)
+        (device (O.written out.old) (O.failed out.old))
+        (device (O.written out.new) (O.failed out.new)) err err result }
+    ensures spared { IfErr result (λ _. out.new ≡ out.old) }
+{
+    let basis = basis_of(alloc, documents)?;
+    match basis {
+        Basis::Bound(analysis) => Ok(tell_walk(out, documents, &analysis)),
+        Basis::Ceiling(bracket) => say_rounds(alloc, documents, &bracket, out),
+    }
+}
+
+/// Writes where the word times of the walk beside a ceiling go.
+fn say_rounds_waits<O: Output>(
+    alloc: Global,
+    documents: &Documents,
+    bracket: &Bracket,
+    out: &mut O,
+) -> Result<Status, Fault>
+    requires called { O.called out.old ≤ 2 ^ 62 }
+    requires none { HaveNoBound documents.now }
+    requires right { IsBracket documents.now bracket.now }
+    ensures does { (err : Device) → Does (ByEither SaysWaits SaysRoundsWaits documents.now)
+        (IsCeilingFault documents.now)
+        (device (O.written out.old) (O.failed out.old))
+        (device (O.written out.new) (O.failed out.new)) err err result }
+    ensures spared { IfErr result (λ _. out.new ≡ out.old) }
+{
+    let waits = WaitsInRounds::of(alloc, &bracket.walk, &documents.times)?;
+    Ok(tell_rounds_waits(out, documents, bracket, &waits))
+}
+
+/// Writes where the word times of the walk of an analysis go.
+fn say_bound_waits<O: Output>(
+    alloc: Global,
+    documents: &Documents,
+    analysis: &Analysis,
+    out: &mut O,
+) -> Result<Status, Fault>
+    requires called { O.called out.old ≤ 2 ^ 62 }
+    requires right { IsBasis documents.now (bases.Bound analysis.now) }
+    ensures does { (err : Device) → Does (ByEither SaysWaits SaysRoundsWaits documents.now)
+        (IsCeilingFault documents.now)
+        (device (O.written out.old) (O.failed out.old))
+        (device (O.written out.new) (O.failed out.new)) err err result }
+    ensures spared { IfErr result (λ _. out.new ≡ out.old) }
+{
+    let waits = Waits::of(alloc, analysis, &documents.times)?;
+    Ok(tell_waits(out, documents, analysis, &waits))
+}
+
+/// Writes where the word times of a worst walk go.
+fn say_waits<O: Output>(alloc: Global, documents: &Documents, out: &mut O) -> Result<Status, Fault>
+    requires { O.called out.old ≤ 2 ^ 62 }
+    ensures does { (err : Device) → Does (ByEither SaysWaits SaysRoundsWaits documents.now)
+        (IsCeilingFault documents.now)
+        (device (O.written out.old) (O.failed out.old))
+        (device (O.written out.new) (O.failed out.new)) err err result }
+    ensures spared { IfErr result (λ _. out.new ≡ out.old) }
+{
+    let basis = basis_of(alloc, documents)?;
+    match basis {
+        Basis::Bound(analysis) => say_bound_waits(alloc, documents, &analysis, out),
+        Basis::Ceiling(bracket) => say_rounds_waits(alloc, documents, &bracket, out),
+    }
+}
+
+/// Writes the table of worst times.
+fn say_table<O: Output>(alloc: Global, documents: &Documents, out: &mut O) -> Result<Status, Fault>
+    requires { O.called out.old ≤ 2 ^ 62 }
+    ensures does { (err : Device) → Does (SaysTable documents.now) (IsAnalysisFault documents.now)
+        (device (O.written out.old) (O.failed out.old))
+        (device (O.written out.new) (O.failed out.new)) err err result }
+    ensures spared { IfErr result (λ _. out.new ≡ out.old) }
+{
+    let analysis = analysis_of(alloc, documents)?;
+    let table = Table::of(alloc, &analysis)?;
+    Ok(tell_table(out, documents, &table))
+}
+
+/// Writes how large the analysis is.
+fn say_size<O: Output>(alloc: Global, documents: &Documents, out: &mut O) -> Result<Status, Fault>
+    requires { O.called out.old ≤ 2 ^ 62 }
+    ensures does { (err : Device) → Does (SaysSize documents.now) (IsAnalysisFault documents.now)
+        (device (O.written out.old) (O.failed out.old))
+        (device (O.written out.new) (O.failed out.new)) err err result }
+    ensures spared { IfErr result (λ _. out.new ≡ out.old) }
+{
+    let analysis = analysis_of(alloc, documents)?;
+    let size = Size::of(alloc, &documents.deck, &documents.notes, &analysis)?;
+    let text = size.text(alloc)?;
+    Ok(tell_text(out, &text))
+}
+
+/// Writes the flow graph.
+fn say_graph<O: Output>(alloc: Global, documents: &Documents, out: &mut O) -> Result<Status, Fault>
+    requires { O.called out.old ≤ 2 ^ 62 }
+    ensures does { (err : Device) → Does (SaysGraph documents.now)
+        (IsDiscoveryFault documents.now)
+        (device (O.written out.old) (O.failed out.old))
+        (device (O.written out.new) (O.failed out.new)) err err result }
+    ensures spared { IfErr result (λ _. out.new ≡ out.old) }
+{
+    let graph = Graph::of(alloc, &documents.deck, &documents.notes)?;
+    Ok(tell_graph(out, documents, &graph))
+}
+
+/// Writes the outline of the flow graph.
+fn say_outline<O: Output>(
+    alloc: Global,
+    documents: &Documents,
+    out: &mut O,
+) -> Result<Status, Fault>
+    requires { O.called out.old ≤ 2 ^ 62 }
+    ensures does { (err : Device) → Does (SaysOutline documents.now)
+        (IsDiscoveryFault documents.now)
+        (device (O.written out.old) (O.failed out.old))
+        (device (O.written out.new) (O.failed out.new)) err err result }
+    ensures spared { IfErr result (λ _. out.new ≡ out.old) }
+{
+    let graph = Graph::outline(alloc, &documents.deck, &documents.notes)?;
+    Ok(tell_graph(out, documents, &graph))
+}
+
+/// Draws a worst walk.
+fn picture_by(alloc: Global, documents: &Documents, basis: &Basis) -> Result<String, AllocError> {
+    let (deck, times) = (&documents.deck, &documents.times);
+    match basis {
+        Basis::Bound(analysis) => picture(alloc, analysis, deck, times),
+        Basis::Ceiling(Bracket { ceiling, walk }) => picture_in_rounds(
+            alloc,
+            walk,
+            ceiling.total(),
+            deck,
+            times,
+            &documents.notes,
+        ),
+    }
+}
+
+/// Writes a picture of a worst walk.
+fn say_picture<O: Output>(
+    alloc: Global,
+    documents: &Documents,
+    out: &mut O,
+) -> Result<Status, Fault>
+    requires { O.called out.old ≤ 2 ^ 62 }
+    ensures does { (err : Device) → Does (ByEither SaysPicture SaysPictureInRounds documents.now)
+        (IsCeilingFault documents.now)
+        (device (O.written out.old) (O.failed out.old))
+        (device (O.written out.new) (O.failed out.new)) err err result }
+    ensures spared { IfErr result (λ _. out.new ≡ out.old) }
+{
+    let basis = basis_of(alloc, documents)?;
+    match picture_by(alloc, documents, &basis) {
+        Ok(text) if text.len() <= PICTURE_BYTES => Ok(tell_text(out, text.as_bytes())),
+        _ => Err(Fault::Refused(Refusal::Memory)),
+    }
+}
+
+/// Writes a ceiling and its walk.
+fn say_ceiling<O: Output>(
+    alloc: Global,
+    documents: &Documents,
+    out: &mut O,
+) -> Result<Status, Fault>
+    requires { O.called out.old ≤ 2 ^ 62 }
+    ensures does { (err : Device) → Does (SaysCeiling documents.now) (IsCeilingFault documents.now)
+        (device (O.written out.old) (O.failed out.old))
+        (device (O.written out.new) (O.failed out.new)) err err result }
+    ensures spared { IfErr result (λ _. out.new ≡ out.old) }
+{
+    let bracket = bracket_of(alloc, documents)?;
+    Ok(tell_ceiling(out, documents, &bracket))
+}
+
+/// Writes the answer to a question about documents, and tells how the program ends.
+///
+/// # Errors
+///
+/// Why there is none: the deck with its notes is refused, or the program is out of memory. Nothing
+/// has been written then. (A write that fails is no error here: the status tells it.)
+pub fn answer_question<O: Output>(
+    alloc: Global,
+    question: Question,
+    documents: &Documents,
+    out: &mut O,
+) -> Result<Status, Fault>
+    requires { O.called out.old ≤ 2 ^ 62 }
+    ensures does { (err : Device) → Does (Says question documents.now)
+        (Refuses question documents.now) (device (O.written out.old) (O.failed out.old))
+        (device (O.written out.new) (O.failed out.new)) err err result }
+    ensures spared { IfErr result (λ _. out.new ≡ out.old) }
+{
+    match question {
+        Question::Bound => say_bound(alloc, documents, out),
+        Question::Report => say_report(alloc, documents, out),
+        Question::Walk => say_walk(alloc, documents, out),
+        Question::Waits => say_waits(alloc, documents, out),
+        Question::Table => say_table(alloc, documents, out),
+        Question::Size => say_size(alloc, documents, out),
+        Question::Graph => say_graph(alloc, documents, out),
+        Question::Outline => say_outline(alloc, documents, out),
+        Question::Draw => say_picture(alloc, documents, out),
+        Question::Ceiling => say_ceiling(alloc, documents, out),
+    }
+}

@@ -1,0 +1,18 @@
+//! What the program says of documents where a question is asked of them.
+//!
+//! Code, from the top down. `answering` answers a question: by the `analysis` of the documents, or
+//! by a `basis` where it is of a worst walk. `telling` writes what is said to standard output.
+//!
+//! Definitions, in the order to read them: `Says` is what is said, and why nothing is. `Basis` says
+//! what the code means by what a worst walk is told by.
+//!
+//! Proofs. `Bases` shows why there is nothing to tell a worst walk by, and `Early` how long the
+//! walk beside a ceiling takes at most.
+#![tactic(auto)]
+
+mod analysis;
+mod answering;
+mod basis;
+mod telling;
+
+pub use answering::answer_question;

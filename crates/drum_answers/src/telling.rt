@@ -1,0 +1,151 @@
+//! What is said of documents, written to standard output, and the status after it.
+
+ghost use Rattle.std.specs.Prelude.{◌≡◌, ◌^◌, ◌≤◌};
+ghost use Rattle.drum_times.specs.Entries.{entry_in};
+ghost use Rattle.drum_bound.specs.AnalysisOf.{angle_of, bound_of, visits_of};
+ghost use Rattle.drum_lines.specs.Output.{GetsResult, device};
+ghost use Rattle.drum_graph.specs.GraphOf.{loops_in, nodes_in, start_of};
+ghost use Rattle.drum_graph.specs.GraphText.{graph_text};
+ghost use Rattle.drum_listing.specs.Report.{report_text};
+ghost use Rattle.drum_hop_lines.specs.WaitsText.{waits_text};
+ghost use Rattle.drum_hop_lines.specs.WalkText.{walk_text};
+ghost use Rattle.drum_listing.specs.TableOf.{rows_in};
+ghost use Rattle.drum_listing.specs.TableText.{table_text};
+ghost use Rattle.drum_listing.specs.WaitsOf.{AreWaits, firsts_of};
+ghost use Rattle.drum_bracket.specs.CeilingText.{ceiling_text};
+ghost use Rattle.drum_bracket.specs.OutlineOf.{IsOutlineOf};
+ghost use Rattle.drum_bracket.specs.RoundsText.{rounds_text};
+ghost use Rattle.drum_bracket.specs.RoundsWaitsOf.{listed};
+ghost use Rattle.drum_limits.specs.Limits.{IsBracket};
+
+use drum_bound::Analysis;
+use drum_bracket::{Outline, WaitsInRounds, list_rounds, list_rounds_waits, report_ceiling};
+use drum_ceiling::Bracket;
+use drum_devices::Output;
+use drum_documents::Documents;
+use drum_graph::{Graph, send_graph};
+use drum_lines::{Status, ended};
+use drum_listing::{Table, Waits, list_table, list_waits, list_walk, report};
+
+/// Writes the report of an analysis.
+pub fn tell_report<O: Output>(out: &mut O, documents: &Documents, analysis: &Analysis) -> Status
+    requires { O.called out.old ≤ 2 ^ 62 }
+    ensures { GetsResult (device (O.written out.old) (O.failed out.old))
+        (device (O.written out.new) (O.failed out.new))
+        (report_text documents.now.deck documents.now.notes (visits_of analysis.now))
+        Status.Done result }
+{
+    ended(
+        report(analysis, &documents.deck, &documents.notes, out),
+        Status::Done,
+    )
+}
+
+/// Writes the worst walk of an analysis.
+pub fn tell_walk<O: Output>(out: &mut O, documents: &Documents, analysis: &Analysis) -> Status
+    requires { O.called out.old ≤ 2 ^ 62 }
+    ensures { GetsResult (device (O.written out.old) (O.failed out.old))
+        (device (O.written out.new) (O.failed out.new))
+        (walk_text (entry_in documents.now.times) (angle_of analysis.now) (visits_of analysis.now)
+        (bound_of analysis.now)) Status.Done result }
+{
+    ended(list_walk(analysis, &documents.times, out), Status::Done)
+}
+
+/// Writes the walk beside a ceiling, by its outline.
+pub fn tell_rounds<O: Output>(
+    out: &mut O,
+    documents: &Documents,
+    bracket: &Bracket,
+    outline: Outline,
+) -> Status
+    requires called { O.called out.old ≤ 2 ^ 62 }
+    requires right { IsBracket documents.now bracket.now }
+    requires outlined { IsOutlineOf bracket.now.walk outline }
+    ensures { GetsResult (device (O.written out.old) (O.failed out.old))
+        (device (O.written out.new) (O.failed out.new))
+        (rounds_text (entry_in documents.now.times) bracket.now) Status.Done result }
+{
+    ended(
+        list_rounds(outline, bracket, &documents.times, out),
+        Status::Done,
+    )
+}
+
+/// Writes where the word times of the worst walk of an analysis go.
+pub fn tell_waits<O: Output>(
+    out: &mut O,
+    documents: &Documents,
+    analysis: &Analysis,
+    waits: &Waits,
+) -> Status
+    requires called { O.called out.old ≤ 2 ^ 62 }
+    requires right { AreWaits (entry_in documents.now.times) (angle_of analysis.now)
+        (visits_of analysis.now) waits.now }
+    ensures { GetsResult (device (O.written out.old) (O.failed out.old))
+        (device (O.written out.new) (O.failed out.new))
+        (waits_text (entry_in documents.now.times) (angle_of analysis.now) (visits_of analysis.now)
+        (firsts_of waits.now) (bound_of analysis.now)) Status.Done result }
+{
+    ended(
+        list_waits(waits, analysis, &documents.times, out),
+        Status::Done,
+    )
+}
+
+/// Writes where the word times of the walk beside a ceiling go.
+pub fn tell_rounds_waits<O: Output>(
+    out: &mut O,
+    documents: &Documents,
+    bracket: &Bracket,
+    waits: &WaitsInRounds,
+) -> Status
+    requires { O.called out.old ≤ 2 ^ 62 }
+    ensures { GetsResult (device (O.written out.old) (O.failed out.old))
+        (device (O.written out.new) (O.failed out.new))
+        (listed (entry_in documents.now.times) waits.now bracket.now) Status.Done result }
+{
+    ended(
+        list_rounds_waits(waits, bracket, &documents.times, out),
+        Status::Done,
+    )
+}
+
+/// Writes a table of worst times.
+pub fn tell_table<O: Output>(out: &mut O, documents: &Documents, table: &Table) -> Status
+    requires { O.called out.old ≤ 2 ^ 62 }
+    ensures { GetsResult (device (O.written out.old) (O.failed out.old))
+        (device (O.written out.new) (O.failed out.new))
+        (table_text documents.now.notes.marks (rows_in table.now)) Status.Done result }
+{
+    ended(
+        list_table(table, documents.notes.marks(), out),
+        Status::Done,
+    )
+}
+
+/// Writes a flow graph, or its outline.
+pub fn tell_graph<O: Output>(out: &mut O, documents: &Documents, graph: &Graph) -> Status
+    requires { O.called out.old ≤ 2 ^ 62 }
+    ensures { GetsResult (device (O.written out.old) (O.failed out.old))
+        (device (O.written out.new) (O.failed out.new))
+        (graph_text documents.now.notes.marks (loops_in graph.now) (start_of graph.now)
+        (nodes_in graph.now))
+        Status.Done result }
+{
+    ended(
+        send_graph(graph, documents.notes.marks(), out),
+        Status::Done,
+    )
+}
+
+/// Writes a ceiling and its walk.
+pub fn tell_ceiling<O: Output>(out: &mut O, documents: &Documents, bracket: &Bracket) -> Status
+    requires called { O.called out.old ≤ 2 ^ 62 }
+    requires right { IsBracket documents.now bracket.now }
+    ensures { GetsResult (device (O.written out.old) (O.failed out.old))
+        (device (O.written out.new) (O.failed out.new))
+        (ceiling_text documents.now.notes bracket.now) Status.Done result }
+{
+    ended(report_ceiling(bracket, &documents.notes, out), Status::Done)
+}

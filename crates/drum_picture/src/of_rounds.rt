@@ -1,0 +1,78 @@
+//! What is drawn of a walk in rounds, beside a ceiling.
+
+use crate::going::Going;
+use crate::pieces::{Content, Weighed, weigh};
+use drum_deck::Deck;
+use drum_rounds::InRounds;
+use drum_scene::{Edge, Edges, Extent, Kind, Rows, Scene, Shares, TakenEdge, Tallies, Walk};
+use drum_times::{Notes, Times};
+use std::alloc::{AllocError, Global};
+
+/// The edges of the hops of a walk.
+fn edges_of(alloc: Global, pieces: &[Weighed<'_>]) -> Result<Edges, AllocError> {
+    let mut all = Vec::new(alloc);
+    for piece in pieces {
+        if let (Content::Hop(hop), true) = (piece.content, piece.taken > 0) {
+            if let Some(edge) = Edge::of(&hop.visit) {
+                let taken = piece.taken;
+                all.push(TakenEdge { edge, taken })?;
+            }
+        }
+    }
+    Edges::together(alloc, &all)
+}
+
+/// Counts the hops of a walk.
+fn count(tallies: &mut Tallies, pieces: &[Weighed<'_>]) -> Shares {
+    let mut shares = Shares::NONE;
+    for piece in pieces {
+        if let (Content::Hop(hop), true) = (piece.content, piece.taken > 0) {
+            tallies.count(&hop.visit, piece.taken);
+            shares = shares.with(hop.parts, piece.taken);
+        }
+    }
+    shares
+}
+
+/// How much of a walk these rows are.
+fn extent_of(walk: Walk, rows: &Rows) -> Extent {
+    let mut time = 0u128;
+    for hop in rows.hops.iter() {
+        time = time.saturating_add(u128::from(hop.visit.took));
+    }
+    if time < walk.time {
+        Extent::Some(rows.shown.len())
+    } else {
+        Extent::All
+    }
+}
+
+/// What is drawn of a walk in rounds of a deck, a timing table and notes.
+pub fn of_rounds(
+    alloc: Global,
+    in_rounds: &InRounds,
+    ceiling: u128,
+    deck: &Deck,
+    times: &Times,
+    notes: &Notes,
+) -> Result<Scene, AllocError> {
+    let walk = Walk {
+        kind: Kind::InRounds(ceiling),
+        angle: in_rounds.angle(),
+        time: in_rounds.total(),
+    };
+    let pieces = weigh(alloc, in_rounds.pieces(), times)?;
+    let mut tallies = Tallies::new(alloc)?;
+    let shares = count(&mut tallies, &pieces);
+    tallies.note_flow(alloc, deck, notes)?;
+    let (rows, braces) = Going::all(alloc, &pieces, walk.angle)?;
+    Ok(Scene {
+        walk,
+        tallies,
+        edges: edges_of(alloc, &pieces)?,
+        shares,
+        extent: extent_of(walk, &rows),
+        rows,
+        braces,
+    })
+}
