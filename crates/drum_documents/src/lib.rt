@@ -1,10 +1,10 @@
 //! The documents of the program, a deck, a timing table and notes, as files and the joined form
 //! hold them: which files are opened, in which order, and how each is read.
 //!
-//! Code, from the bottom up. `documents` is a deck with its timing table and notes. A `source` opens
-//! files and takes each text back. `files` reads a file to its limit, and the documents and the
-//! inputs that files hold; `texts` reads the texts alone, for a check. `joined` has the parts of a
-//! joined form, and `joined_input` the documents of one.
+//! Code, from the bottom up. `documents` is a deck with its timing table and notes. A `source`
+//! opens files and takes each text back. `files` reads a file to its limit, and the documents and
+//! the inputs that files hold; `texts` reads the texts alone, for a check. `joined` has the parts
+//! of a joined form, and `joined_input` the documents of one.
 //!
 //! Definitions, in the order to read them: `Documents` says which texts say documents. Then come
 //! the texts of a joined form (`Joined`) and of files (`Files`, of a check `TextsHeld`). `Asked` is
