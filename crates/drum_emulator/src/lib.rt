@@ -4,8 +4,8 @@
 //! Code, from the bottom up. `setup` and `feed` are what a machine is given; of the feed the next
 //! card and the next wait are taken. `first_drum` is its drum at time 0. `arithmetic` has sums,
 //! products, quotients, digit sums and shifts. `registers` has what each operation does, and the
-//! units of its work. `machine` takes the steps. A `step` is what it answers, and a `stop` that it
-//! has stopped. `memory` says that there was no memory.
+//! units of its work (36 and 84 are none: `op` of `drum_core`). `machine` takes the steps. A `step`
+//! is what it answers, and a `stop` that it has stopped. `memory` says that there was no memory.
 //!
 //! Definitions: `Setup` and `FirstState` (how a run begins) and `Fed` (which cards and waits its
 //! steps take). The others say what the code's types mean: `Registers`, `Feed`, `Machine`.

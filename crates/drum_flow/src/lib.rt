@@ -16,9 +16,10 @@
 //!
 //! Definitions, in the order to read them: `Hops` (hops, edges, nodes, and what is executed),
 //! `Executed` (the order of discovery), `Taken` (whether a step may go on from one location to
-//! another), `Accepted` (when a deck is, and each refusal), `Walk`, `RunHops` (the hops of a run),
-//! `Bounded` (what no kept run uses more than), and `Longest` (the latest clock at which a hop can
-//! end). `Profile` says by which ways an instruction may end. `MostPasses` has the number that no
+//! another), `Accepted` (when a deck is, when a location is in order, and each refusal), `Walk`,
+//! `RunHops` (the hops of a run), `Bounded` (what no kept run uses more than), and `Longest` (the
+//! latest clock at which a hop can end, with the most units that its operation may have). `Profile`
+//! says by which ways an instruction of the profile may end. `MostPasses` has the number that no
 //! walk passes a mark more often than. `Passes` says that a pass raises the counts. The others say
 //! what the code's types and loops mean by these: of hops `Patterns`, `Instructions`, `HopsLeft`,
 //! `Seen` and `Alike`; of discovery `InNodes`, `Discovered`, `Found`, `Refused` and `Flow` (with
