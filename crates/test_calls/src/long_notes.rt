@@ -132,7 +132,8 @@ const REFUSED: [(&str, &str); 16] = [
         "two marks stand on the edge from 0003 to 0004",
     ),
     (
-        "[[mark]]\nfrom = 3\nto = 4\nmost = 1\ninside = \"later\"\nname = \"\"\n[[mark]]\nfrom = 5\nto = 6\nmost = 1\nname = \"later\"\n",
+        "[[mark]]\nfrom = 3\nto = 4\nmost = 1\ninside = \"later\"\nname = \"\"\n\
+        [[mark]]\nfrom = 5\nto = 6\nmost = 1\nname = \"later\"\n",
         "the value of mark.1.inside is out of range",
     ),
     (
@@ -140,7 +141,8 @@ const REFUSED: [(&str, &str); 16] = [
         "the value of mark.1.inside is out of range",
     ),
     (
-        "[[mark]]\nfrom = 3\nto = 4\nmost = 1\nname = \"a\"\n[[mark]]\nfrom = 5\nto = 6\nmost = 1\nname = \"a\"\n",
+        "[[mark]]\nfrom = 3\nto = 4\nmost = 1\nname = \"a\"\n\
+        [[mark]]\nfrom = 5\nto = 6\nmost = 1\nname = \"a\"\n",
         "the value of mark.2.name is out of range",
     ),
     (

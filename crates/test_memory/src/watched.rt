@@ -41,7 +41,8 @@ const INPUTS: &str = "\
 ANGLE 17\n\
 LATCH ON\n\
 0107 +0000000001 -0000000002\n\
-CARD +0000000001 +0000000002 +0000000003 +0000000004 +0000000005 +0000000006 +0000000007 +0000000008 +0000000009 +0000000010\n\
+CARD +0000000001 +0000000002 +0000000003 +0000000004 +0000000005 +0000000006 \
++0000000007 +0000000008 +0000000009 +0000000010\n\
 WAIT 5\n\
 WAIT 0000007\n\
 ";
@@ -80,9 +81,11 @@ fn of_documents_that_are_refused(rt: HostRuntime) -> Result<(), Fail> {
         "programmed = \"stop\"\n",
         "\"a.b\" = 1\n",
         "programmed = 1\nload_cards = \"none\"\n",
-        "programmed = \"stop\"\nload_cards = \"any\"\nmark = [{ from = 1, to = 1, most = 10000 }]\n",
+        "programmed = \"stop\"\nload_cards = \"any\"\n\
+        mark = [{ from = 1, to = 1, most = 10000 }]\n",
         "programmed = \"stop\"\nload_cards = \"any\"\nlist = [{ location = 1, pattern = [7] }]\n",
-        "programmed = \"stop\"\nload_cards = \"any\"\nmark = [{ from = 1, to = 1, most = 1 }, { from = 1, to = 1, most = 2 }]\n",
+        "programmed = \"stop\"\nload_cards = \"any\"\n\
+        mark = [{ from = 1, to = 1, most = 1 }, { from = 1, to = 1, most = 2 }]\n",
     ] {
         holds(&rt, Call::ReadNotes(text))?;
     }

@@ -67,8 +67,10 @@ fn straight(rt: HostRuntime) -> Result<(), Fail> {
     for deck in [
         TWO_WORDS,
         "0100 +6000070131\n0131 +1500080112\n0112 +2400090118\n0118 +0100000118\nSTART 0100\n",
-        "0049 +6680020000\n0000 +1780030013\n0013 +6980000014\n0014 +2219990015\n0015 +0000009999\nSTART 0049\n",
-        "0100 +3000000117\n0117 +3100000121\n0121 +3500090111\n0111 +3101230500\n0500 +0199990500\nSTART 0100\n",
+        "0049 +6680020000\n0000 +1780030013\n0013 +6980000014\n0014 +2219990015\n\
+        0015 +0000009999\nSTART 0049\n",
+        "0100 +3000000117\n0117 +3100000121\n0121 +3500090111\n0111 +3101230500\n\
+        0500 +0199990500\nSTART 0100\n",
         "0100 +2480000106\nSTART 0100\n",
         "0100 +0000002500\nSTART 0100\n",
     ] {
@@ -80,8 +82,10 @@ fn straight(rt: HostRuntime) -> Result<(), Fail> {
 #[test]
 fn branches(rt: HostRuntime) -> Result<(), Fail> {
     for deck in [
-        "0100 +4401030120\n0103 +4501500120\n0120 +4600070131\n0131 +0100000131\n0150 +0100000150\n0007 +0100000007\nSTART 0100\n",
-        "0100 +9001060110\n0106 +0000000120\n0110 +6900420120\n0120 +9925000121\n0121 +0100000121\nSTART 0100\n",
+        "0100 +4401030120\n0103 +4501500120\n0120 +4600070131\n0131 +0100000131\n\
+        0150 +0100000150\n0007 +0100000007\nSTART 0100\n",
+        "0100 +9001060110\n0106 +0000000120\n0110 +6900420120\n0120 +9925000121\n\
+        0121 +0100000121\nSTART 0100\n",
         "0100 +4701060106\n0106 +1002000110\n0110 +4601129999\n0112 +2480010112\nSTART 0100\n",
         "0100 +4425002500\nSTART 0100\n",
     ] {
@@ -89,7 +93,10 @@ fn branches(rt: HostRuntime) -> Result<(), Fail> {
         agree(
             &rt,
             deck,
-            "programmed = \"run\"\nload_cards = \"none\"\n[[mark]]\nfrom = 131\nto = 131\nmost = 2\n[[mark]]\nfrom = 150\nto = 150\nmost = 0\n[[mark]]\nfrom = 7\nto = 7\nmost = 1\n[[mark]]\nfrom = 121\nto = 121\nmost = 2\n",
+            "programmed = \"run\"\nload_cards = \"none\"\n\
+            [[mark]]\nfrom = 131\nto = 131\nmost = 2\n\
+            [[mark]]\nfrom = 150\nto = 150\nmost = 0\n\
+            [[mark]]\nfrom = 7\nto = 7\nmost = 1\n[[mark]]\nfrom = 121\nto = 121\nmost = 2\n",
             ALL,
         )?;
     }
@@ -130,7 +137,8 @@ fn waits(rt: HostRuntime) -> Result<(), Fail> {
 
 /// Notes for the deck that reads: it goes on at 01, and back to itself so often.
 const RUN_ONCE: &str =
-    "programmed = \"run\"\nload_cards = \"any\"\n[[mark]]\nfrom = 11\nto = 11\nmost = 2\n[[mark]]\nfrom = 17\nto = 17\nmost = 1\n";
+    "programmed = \"run\"\nload_cards = \"any\"\n[[mark]]\nfrom = 11\nto = 11\nmost = 2\n\
+    [[mark]]\nfrom = 17\nto = 17\nmost = 1\n";
 
 #[test]
 fn marks(rt: HostRuntime) -> Result<(), Fail> {
