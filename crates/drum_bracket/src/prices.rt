@@ -5,7 +5,8 @@ ghost use Rattle.std.specs.Prelude.{◌≡◌, ◌+◌, ◌^◌, ◌≤◌, IfOk
 ghost use Rattle.std.specs.List.{enumerate_from};
 ghost use Rattle.drum_rounds.specs.InRounds.{passes_in};
 ghost use Rattle.drum_ceiling.specs.CeilingOf.{prices_of};
-ghost use Rattle.drum_lines.specs.Sent.{IsSent, IsWritten, failed_writes};
+ghost use Rattle.drum_devices.specs.Device.{failures_after};
+ghost use Rattle.drum_lines.specs.Sent.{IsSent, IsWritten};
 ghost use Rattle.drum_bracket.specs.CeilingText.{ceiling_text, price_line, price_line_at};
 ghost use Rattle.drum_bracket.specs.CeilingText.{total_lines};
 
@@ -25,9 +26,10 @@ fn send_price<O: Output>(
 ) -> Result<usize, WriteFault>
     requires called { O.called writer.old ≤ 2 ^ 62 + 2 ^ 40 }
     requires few { sent ≤ 2 ^ 40 }
-    ensures sent { IsSent (O.written writer.old) (O.written writer.new) sent result
+    ensures sent { IsSent (O.device writer.old).written (O.device writer.new).written sent result
         (price_line mark.now price passes) }
-    ensures failures { O.failed writer.new ≡ O.failed writer.old + failed_writes result }
+    ensures failures { (O.device writer.new).failures
+        ≡ failures_after result (O.device writer.old).failures }
     ensures calls { O.called writer.new ≤ O.called writer.old + 170 }
     ensures short { length (price_line mark.now price passes) ≤ 170 }
 {
@@ -61,9 +63,10 @@ fn send_prices<O: Output>(
     requires marks { length marks.now ≤ 64 }
     requires prices { length marks.now ≤ length (prices_of bracket.now.ceiling) }
     requires passes { length marks.now ≤ length (passes_in bracket.now.walk) }
-    ensures sent { IsSent (O.written writer.old) (O.written writer.new) 0 result
+    ensures sent { IsSent (O.device writer.old).written (O.device writer.new).written 0 result
         (flat_map (price_line_at bracket.now) (enumerate_from 0 marks.now)) }
-    ensures failures { O.failed writer.new ≡ O.failed writer.old + failed_writes result }
+    ensures failures { (O.device writer.new).failures
+        ≡ failures_after result (O.device writer.old).failures }
     ensures calls { O.called writer.new ≤ O.called writer.old + 10880 }
     ensures few { IfOk result (λ total. total ≤ 10880) }
 {
@@ -84,9 +87,10 @@ pub fn send_totals<O: Output>(
 ) -> Result<usize, WriteFault>
     requires called { O.called writer.old ≤ 2 ^ 62 + 2 ^ 60 }
     requires few { sent ≤ 2 ^ 60 }
-    ensures sent { IsSent (O.written writer.old) (O.written writer.new) sent result
+    ensures sent { IsSent (O.device writer.old).written (O.device writer.new).written sent result
         (total_lines reached total) }
-    ensures failures { O.failed writer.new ≡ O.failed writer.old + failed_writes result }
+    ensures failures { (O.device writer.new).failures
+        ≡ failures_after result (O.device writer.old).failures }
     ensures calls { O.called writer.new ≤ O.called writer.old + 120 }
 {
     let (mut first, mut second) = (Buffer::new(), Buffer::new());
@@ -115,9 +119,10 @@ pub fn report_ceiling<O: Output>(
     requires called { O.called writer.old ≤ 2 ^ 62 }
     requires prices { length (prices_of bracket.now.ceiling) ≡ length notes.now.marks }
     requires passes { length (passes_in bracket.now.walk) ≡ length notes.now.marks }
-    ensures written { IsWritten (O.written writer.old) (O.written writer.new) result
+    ensures written { IsWritten (O.device writer.old).written (O.device writer.new).written result
         (ceiling_text notes.now bracket.now) }
-    ensures failures { O.failed writer.new ≡ O.failed writer.old + failed_writes result }
+    ensures failures { (O.device writer.new).failures
+        ≡ failures_after result (O.device writer.old).failures }
     ensures calls { O.called writer.new ≤ O.called writer.old + 11000 }
 {
     let sent = send_prices(writer, notes.marks(), bracket)?;

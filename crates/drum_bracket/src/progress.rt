@@ -1,7 +1,7 @@
 //! How far a walk is told.
 
 ghost use Rattle.std.specs.Prelude.{◌≡◌, ◌+◌, ◌^◌, ◌<◌, OnOk, [], ◌∷◌, length};
-ghost use Rattle.drum_lines.specs.Sent.{failed_writes};
+ghost use Rattle.drum_devices.specs.Device.{failures_after};
 ghost use Rattle.drum_bracket.specs.RoundsText.{one_more};
 ghost use Rattle.drum_bracket.specs.ProgressOf.{told_of, HasMoved, IsPassed, MayPass};
 
@@ -28,9 +28,11 @@ impl Progress {
     /// Gathers a line; where there is no room for it, writes what was gathered, and then the line.
     pub fn pass<O: Output, L: Line>(&mut self, writer: &mut O, line: &L) -> Result<(), WriteFault>
         requires { MayPass (O.called writer.old) self.old }
-        ensures lines { IsPassed (O.written writer.old) (O.written writer.new) self.old self.new
+        ensures lines { IsPassed (O.device writer.old).written (O.device writer.new).written
+            self.old self.new
             result (L.text line.now ∷ []) }
-        ensures failures { O.failed writer.new ≡ O.failed writer.old + failed_writes result }
+        ensures failures { (O.device writer.new).failures
+            ≡ failures_after result (O.device writer.old).failures }
         ensures moved { OnOk result
             (HasMoved (O.called writer.old) (O.called writer.new) self.old self.new) }
     {

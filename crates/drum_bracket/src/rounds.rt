@@ -3,7 +3,8 @@
 ghost use Rattle.std.specs.Prelude.{◌≡◌, ◌+◌, ◌^◌, ◌<◌, ◌≤◌, IfOk};
 ghost use Rattle.drum_times.specs.Entries.{entry_in};
 ghost use Rattle.drum_rounds.specs.InRounds.{pieces_of, total_of};
-ghost use Rattle.drum_lines.specs.Sent.{IsSent, IsWritten, failed_writes};
+ghost use Rattle.drum_devices.specs.Device.{failures_after};
+ghost use Rattle.drum_lines.specs.Sent.{IsSent, IsWritten};
 ghost use Rattle.drum_bracket.specs.OutlineOf.{IsOutlineOf, IsWalkWith};
 ghost use Rattle.drum_bracket.specs.RoundsText.{joined, rounds_text, tell};
 
@@ -29,9 +30,10 @@ fn send_walk<O: Output>(
     requires outlined { IsOutlineOf walk.now outline }
     requires right { IsWalkWith times.now walk.now }
     requires early { total_of walk.now < 2 ^ 127 }
-    ensures sent { IsSent (O.written writer.old) (O.written writer.new) 0 result
+    ensures sent { IsSent (O.device writer.old).written (O.device writer.new).written 0 result
         (joined (tell (entry_in times.now) (pieces_of walk.now)).0) }
-    ensures failures { O.failed writer.new ≡ O.failed writer.old + failed_writes result }
+    ensures failures { (O.device writer.new).failures
+        ≡ failures_after result (O.device writer.old).failures }
     ensures calls { IfOk result (λ _. O.called writer.new ≤ O.called writer.old + 2 ^ 50) }
     ensures few { IfOk result (λ total. total ≤ 2 ^ 50) }
 {
@@ -71,9 +73,10 @@ pub fn list_rounds<O: Output>(
     requires outlined { IsOutlineOf bracket.now.walk outline }
     requires right { IsWalkWith times.now bracket.now.walk }
     requires early { total_of bracket.now.walk < 2 ^ 127 }
-    ensures written { IsWritten (O.written writer.old) (O.written writer.new) result
+    ensures written { IsWritten (O.device writer.old).written (O.device writer.new).written result
         (rounds_text (entry_in times.now) bracket.now) }
-    ensures failures { O.failed writer.new ≡ O.failed writer.old + failed_writes result }
+    ensures failures { (O.device writer.new).failures
+        ≡ failures_after result (O.device writer.old).failures }
 {
     let walk = &bracket.walk;
     let sent = send_walk(outline, walk, times, writer)?;

@@ -3,7 +3,7 @@
 ghost use Rattle.std.specs.Prelude.{◌≡◌, ◌+◌, OnOk, Some, length, slice_get};
 ghost use Rattle.drum_walks.specs.Pieces.{spelled_of};
 ghost use Rattle.drum_walks.specs.declared.piece.Piece.TheVariants as pieces;
-ghost use Rattle.drum_lines.specs.Sent.{failed_writes};
+ghost use Rattle.drum_devices.specs.Device.{failures_after};
 ghost use Rattle.drum_bracket.specs.ProgressOf.{told_of, HasTold, IsPassed, MayTell};
 ghost use Rattle.drum_bracket.specs.RoundsText.{first_place, is_part, last_place, part_again};
 ghost use Rattle.drum_bracket.specs.TellerOf.{piece_told, pieces_in, IsTeller};
@@ -66,10 +66,12 @@ impl Teller<'_> {
         requires is { slice_get (pieces_in self.now) number ≡ Some (pieces.Hop one) }
         requires may { MayTell (O.called writer.old) (length (pieces_in self.now)) progress.old
             (piece_told self.now number (pieces.Hop one) (told_of progress.old)) }
-        ensures lines { IsPassed (O.written writer.old) (O.written writer.new) progress.old
+        ensures lines { IsPassed (O.device writer.old).written (O.device writer.new).written
+            progress.old
             progress.new result
             (piece_told self.now number (pieces.Hop one) (told_of progress.old)).0 }
-        ensures failures { O.failed writer.new ≡ O.failed writer.old + failed_writes result }
+        ensures failures { (O.device writer.new).failures
+            ≡ failures_after result (O.device writer.old).failures }
         ensures told { OnOk result (HasTold (O.called writer.old) (O.called writer.new) progress.old
             progress.new (piece_told self.now number (pieces.Hop one) (told_of progress.old))) }
     {
@@ -99,10 +101,12 @@ impl Teller<'_> {
         requires is { slice_get (pieces_in self.now) number ≡ Some piece.now }
         requires may { MayTell (O.called writer.old) (length (pieces_in self.now)) progress.old
             (part_again part (piece_told self.now number piece.now) (told_of progress.old)) }
-        ensures lines { IsPassed (O.written writer.old) (O.written writer.new) progress.old
+        ensures lines { IsPassed (O.device writer.old).written (O.device writer.new).written
+            progress.old
             progress.new result
             (part_again part (piece_told self.now number piece.now) (told_of progress.old)).0 }
-        ensures failures { O.failed writer.new ≡ O.failed writer.old + failed_writes result }
+        ensures failures { (O.device writer.new).failures
+            ≡ failures_after result (O.device writer.old).failures }
         ensures told { OnOk result (HasTold (O.called writer.old) (O.called writer.new) progress.old
             progress.new
             (part_again part (piece_told self.now number piece.now) (told_of progress.old))) }

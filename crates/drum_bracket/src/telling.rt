@@ -2,7 +2,7 @@
 
 ghost use Rattle.std.specs.Prelude.{◌≡◌, ◌+◌, ◌≤◌, OnOk, Some, length, slice_get};
 ghost use Rattle.drum_walks.specs.declared.piece.Piece.TheVariants as pieces;
-ghost use Rattle.drum_lines.specs.Sent.{failed_writes};
+ghost use Rattle.drum_devices.specs.Device.{failures_after};
 ghost use Rattle.drum_bracket.specs.ProgressOf.{told_of, HasTold, IsPassed, MayTell};
 ghost use Rattle.drum_bracket.specs.RoundsText.{first_part};
 ghost use Rattle.drum_bracket.specs.TellerOf.{named_told, piece_told, pieces_in, row_told};
@@ -29,9 +29,11 @@ impl Teller<'_> {
         requires within { limit ≤ length (pieces_in self.now) }
         requires may { MayTell (O.called writer.old) (length (pieces_in self.now)) progress.old
             (row_told self.now limit names.now (told_of progress.old)) }
-        ensures lines { IsPassed (O.written writer.old) (O.written writer.new) progress.old
+        ensures lines { IsPassed (O.device writer.old).written (O.device writer.new).written
+            progress.old
             progress.new result (row_told self.now limit names.now (told_of progress.old)).0 }
-        ensures failures { O.failed writer.new ≡ O.failed writer.old + failed_writes result }
+        ensures failures { (O.device writer.new).failures
+            ≡ failures_after result (O.device writer.old).failures }
         ensures told { OnOk result (HasTold (O.called writer.old) (O.called writer.new) progress.old
             progress.new (row_told self.now limit names.now (told_of progress.old))) }
     {
@@ -54,10 +56,12 @@ impl Teller<'_> {
         requires within { limit ≤ length (pieces_in self.now) }
         requires may { MayTell (O.called writer.old) (length (pieces_in self.now)) progress.old
             (piece_told self.now limit (pieces.Rounds rounds) (told_of progress.old)) }
-        ensures lines { IsPassed (O.written writer.old) (O.written writer.new) progress.old
+        ensures lines { IsPassed (O.device writer.old).written (O.device writer.new).written
+            progress.old
             progress.new result
             (piece_told self.now limit (pieces.Rounds rounds) (told_of progress.old)).0 }
-        ensures failures { O.failed writer.new ≡ O.failed writer.old + failed_writes result }
+        ensures failures { (O.device writer.new).failures
+            ≡ failures_after result (O.device writer.old).failures }
         ensures told { OnOk result (HasTold (O.called writer.old) (O.called writer.new) progress.old
             progress.new
             (piece_told self.now limit (pieces.Rounds rounds) (told_of progress.old))) }
@@ -85,9 +89,11 @@ impl Teller<'_> {
         requires is { slice_get (pieces_in self.now) number ≡ Some piece.now }
         requires may { MayTell (O.called writer.old) (length (pieces_in self.now)) progress.old
             (piece_told self.now number piece.now (told_of progress.old)) }
-        ensures lines { IsPassed (O.written writer.old) (O.written writer.new) progress.old
+        ensures lines { IsPassed (O.device writer.old).written (O.device writer.new).written
+            progress.old
             progress.new result (piece_told self.now number piece.now (told_of progress.old)).0 }
-        ensures failures { O.failed writer.new ≡ O.failed writer.old + failed_writes result }
+        ensures failures { (O.device writer.new).failures
+            ≡ failures_after result (O.device writer.old).failures }
         ensures told { OnOk result (HasTold (O.called writer.old) (O.called writer.new) progress.old
             progress.new (piece_told self.now number piece.now (told_of progress.old))) }
     {
@@ -111,10 +117,12 @@ impl Teller<'_> {
         requires is { slice_get (pieces_in self.now) number ≡ Some piece.now }
         requires may { MayTell (O.called writer.old) (length (pieces_in self.now)) progress.old
             (first_part number (piece_told self.now number piece.now) (told_of progress.old)) }
-        ensures lines { IsPassed (O.written writer.old) (O.written writer.new) progress.old
+        ensures lines { IsPassed (O.device writer.old).written (O.device writer.new).written
+            progress.old
             progress.new result
             (first_part number (piece_told self.now number piece.now) (told_of progress.old)).0 }
-        ensures failures { O.failed writer.new ≡ O.failed writer.old + failed_writes result }
+        ensures failures { (O.device writer.new).failures
+            ≡ failures_after result (O.device writer.old).failures }
         ensures told { OnOk result (HasTold (O.called writer.old) (O.called writer.new) progress.old
             progress.new
             (first_part number (piece_told self.now number piece.now) (told_of progress.old))) }
@@ -139,9 +147,11 @@ impl Teller<'_> {
         requires within { limit ≤ length (pieces_in self.now) }
         requires may { MayTell (O.called writer.old) (length (pieces_in self.now)) progress.old
             (named_told self.now limit number (told_of progress.old)) }
-        ensures lines { IsPassed (O.written writer.old) (O.written writer.new) progress.old
+        ensures lines { IsPassed (O.device writer.old).written (O.device writer.new).written
+            progress.old
             progress.new result (named_told self.now limit number (told_of progress.old)).0 }
-        ensures failures { O.failed writer.new ≡ O.failed writer.old + failed_writes result }
+        ensures failures { (O.device writer.new).failures
+            ≡ failures_after result (O.device writer.old).failures }
         ensures told { OnOk result (HasTold (O.called writer.old) (O.called writer.new) progress.old
             progress.new (named_told self.now limit number (told_of progress.old))) }
     {

@@ -1,7 +1,24 @@
 -- What a device tells of its calls.
 use Rattle.std.specs.Borrow.{Bor}
-use Rattle.std.specs.Prelude.{ℕ, ◌==◌, ◌&&◌, Bool, true, false, List, flat_map, length, not, Result}
-use Rattle.std.specs.Prelude.{Ok, Err}
+use Rattle.std.specs.Prelude.{ℕ, ◌+◌, ◌-◌, ◌^◌, ◌==◌, ◌&&◌, min, Bool, true, false, List, flat_map, length}
+use Rattle.std.specs.Prelude.{not, Option, Result, Ok, Err}
+
+-- what a device was given, where that is known, and how many writes to it failed
+pub record Device : Type 0 where
+  pub written : Option (List ℕ)
+  pub failures : ℕ
+
+abbrev pub device : Option (List ℕ) → ℕ → Device
+device written failures = record { written = written; failures = failures }
+
+-- one more, of a count that stays at the most that it can hold
+unfoldable pub one_more : ℕ → ℕ
+one_more count = min (count + 1) (2 ^ 64 - 1)
+
+-- how many writes have failed after one that ended so, where so many had failed before it
+abbrev pub failures_after : {T E : Type 0} → Result T E → ℕ → ℕ
+failures_after (Ok done) failures = failures
+failures_after (Err error) failures = one_more failures
 
 -- a write that failed, or that took none of some bytes
 abbrev pub took_none : {E : Type 0} → Result ℕ E → List ℕ → Bool

@@ -1,20 +1,18 @@
-ghost use Rattle.std.specs.Prelude.{◌≡◌, ℕ, ◌+◌, ◌^◌, ◌≤◌, List, Option, if◌then◌else◌};
+ghost use Rattle.std.specs.Prelude.{◌≡◌, ℕ, if◌then◌else◌};
 ghost use Rattle.std.specs.Io.{WritesAtMost};
 ghost use Rattle.std.specs.Io.KnownBytes.{WriteAppends};
-ghost use Rattle.drum_devices.specs.Device.{took_none};
+ghost use Rattle.drum_devices.specs.Device.{Device, one_more, took_none};
 
 use crate::failed::Failed;
 
-/// A device that bytes go to.
+/// A device that bytes go to. Its counts stay at the most that they can hold.
 pub trait Output {
-    /// The bytes that it was given, where that is known.
-    ghost written: { Self → Option (List ℕ) };
+    /// The bytes that it was given, where that is known, and how many writes failed, or took none
+    /// of some bytes.
+    ghost device: { Self → Device };
 
     /// How often it was written to.
     ghost called: { Self → ℕ };
-
-    /// How many writes failed, or took none of some bytes.
-    ghost failed: { Self → ℕ };
 
     /// Writes some bytes from the beginning of the buffer, and returns how many.
     ///
@@ -22,18 +20,18 @@ pub trait Output {
     ///
     /// Any error of the device, even one that only means that the write was interrupted.
     fn write(&mut self, buf: &[u8]) -> Result<usize, Failed>
-        requires { called self.old ≤ 2 ^ 63 }
         ensures bound { WritesAtMost result buf.now }
-        ensures bytes { WriteAppends (written self.old) (written self.new) result buf.now }
-        ensures calls { called self.new ≡ called self.old + 1 }
-        ensures failures { failed self.new
-            ≡ failed self.old + (if took_none result buf.now then 1 else 0) };
+        ensures bytes { WriteAppends (device self.old).written (device self.new).written result
+            buf.now }
+        ensures calls { called self.new ≡ one_more (called self.old) }
+        ensures failures { (device self.new).failures ≡ (if took_none result buf.now
+            then one_more (device self.old).failures else (device self.old).failures) };
 
-    /// How often it was written to.
+    /// How often it was written to; `u64::MAX` stands for that many times or more.
     fn calls(&self) -> u64
         ensures { result ≡ called self.now };
 
-    /// How many writes failed, or took none of some bytes.
+    /// How many writes failed, or took none of some bytes; `u64::MAX` stands for that many or more.
     fn failures(&self) -> u64
-        ensures { result ≡ failed self.now };
+        ensures { result ≡ (device self.now).failures };
 }

@@ -1,9 +1,8 @@
 //! Writing bytes whole.
 
-ghost use Rattle.std.specs.Prelude.{◌≡◌, ◌+◌, ◌^◌, ◌<◌, ◌≤◌, IfErr, IfOk, OnOk, is_err};
-ghost use Rattle.std.specs.Prelude.{if◌then◌else◌, take, length};
+ghost use Rattle.std.specs.Prelude.{◌≡◌, ◌+◌, ◌^◌, ◌<◌, ◌≤◌, IfErr, IfOk, OnOk, take, length};
 ghost use Rattle.std.specs.Io.KnownBytes.{Appends};
-ghost use Rattle.drum_devices.specs.Device.{joined};
+ghost use Rattle.drum_devices.specs.Device.{failures_after, joined};
 
 use crate::output::Output;
 
@@ -19,14 +18,15 @@ pub struct Unsent {
 /// # Errors
 ///
 /// Where a write fails or takes no byte, with the number of bytes that had gone out.
+#[tactic(auto, using(crate::proofs::Counts::at_most_one_more))]
 pub fn write_whole<O: Output>(output: &mut O, bytes: &[u8]) -> Result<(), Unsent>
-    requires { O.called output.old + length bytes.now ≤ 2 ^ 63 }
-    ensures all { OnOk result (Appends (O.written output.old) (O.written output.new) bytes.now) }
-    ensures prefix { IfErr result (λ error.
-        Appends (O.written output.old) (O.written output.new) (take error.sent bytes.now)) }
+    ensures all { OnOk result
+        (Appends (O.device output.old).written (O.device output.new).written bytes.now) }
+    ensures prefix { IfErr result (λ error. Appends (O.device output.old).written
+        (O.device output.new).written (take error.sent bytes.now)) }
     ensures some { IfErr result (λ error. error.sent < length bytes.now) }
-    ensures failures { O.failed output.new
-        ≡ O.failed output.old + (if is_err result then 1 else 0) }
+    ensures failures { (O.device output.new).failures
+        ≡ failures_after result (O.device output.old).failures }
     ensures calls { O.called output.new ≤ O.called output.old + length bytes.now }
 {
     let mut sent = 0;
@@ -46,15 +46,15 @@ pub fn write_whole<O: Output>(output: &mut O, bytes: &[u8]) -> Result<(), Unsent
 ///
 /// Where a write fails or takes no byte, with the number of bytes that had gone out, of all pieces.
 pub fn write_pieces<O: Output>(output: &mut O, pieces: &[&[u8]]) -> Result<usize, Unsent>
-    requires { O.called output.old + length (joined pieces.now) ≤ 2 ^ 63 }
+    requires { length (joined pieces.now) ≤ 2 ^ 63 }
     ensures all { OnOk result
-        (Appends (O.written output.old) (O.written output.new) (joined pieces.now)) }
+        (Appends (O.device output.old).written (O.device output.new).written (joined pieces.now)) }
     ensures count { IfOk result (λ count. count ≡ length (joined pieces.now)) }
-    ensures prefix { IfErr result (λ error. Appends (O.written output.old) (O.written output.new)
-        (take error.sent (joined pieces.now))) }
+    ensures prefix { IfErr result (λ error. Appends (O.device output.old).written
+        (O.device output.new).written (take error.sent (joined pieces.now))) }
     ensures some { IfErr result (λ error. error.sent < length (joined pieces.now)) }
-    ensures failures { O.failed output.new
-        ≡ O.failed output.old + (if is_err result then 1 else 0) }
+    ensures failures { (O.device output.new).failures
+        ≡ failures_after result (O.device output.old).failures }
     ensures calls { O.called output.new ≤ O.called output.old + length (joined pieces.now) }
 {
     let mut sent = 0;

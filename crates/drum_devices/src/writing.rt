@@ -1,4 +1,5 @@
-ghost use Rattle.std.specs.Prelude.{◌≡◌, ◌≤◌};
+ghost use Rattle.std.specs.Prelude.{◌≡◌};
+ghost use Rattle.drum_devices.specs.Device.{device};
 
 use crate::failed::Failed;
 use crate::output::Output;
@@ -11,7 +12,6 @@ pub struct Writing<W: Write> {
     pub writer: W,
     calls: u64,
     failures: u64,
-    ghost within: { failures ≤ calls },
 }
 
 impl<W: Write> Writing<W> {
@@ -19,7 +19,7 @@ impl<W: Write> Writing<W> {
     pub fn new(writer: W) -> Writing<W>
         ensures writer { result.writer ≡ writer }
         ensures calls { ⟦<Writing<W> as Output>⟧.called result ≡ 0 }
-        ensures failures { ⟦<Writing<W> as Output>⟧.failed result ≡ 0 }
+        ensures failures { (⟦<Writing<W> as Output>⟧.device result).failures ≡ 0 }
     {
         Writing {
             writer,
@@ -30,23 +30,22 @@ impl<W: Write> Writing<W> {
 }
 
 impl<W: Write> Output for Writing<W> {
-    ghost written = { λ writing. W.contents writing.writer };
+    ghost device = { λ writing. device (W.contents writing.writer) writing.failures };
 
     ghost called = { λ writing. writing.calls };
 
-    ghost failed = { λ writing. writing.failures };
-
+    #[tactic(auto, unfolding(crate::specs::Device::one_more))]
     fn write(&mut self, buf: &[u8]) -> Result<usize, Failed> {
-        self.calls += 1;
+        self.calls = self.calls.saturating_add(1);
         match self.writer.write(buf) {
             Ok(count) => {
                 if count == 0 && !buf.is_empty() {
-                    self.failures += 1;
+                    self.failures = self.failures.saturating_add(1);
                 }
                 Ok(count)
             }
             Err(_) => {
-                self.failures += 1;
+                self.failures = self.failures.saturating_add(1);
                 Err(Failed)
             }
         }

@@ -6,7 +6,8 @@ ghost use Rattle.drum_core.specs.Numeral.{digits_of};
 ghost use Rattle.drum_core.specs.Op.{is_operand, op_of, operand_of};
 ghost use Rattle.drum_core.specs.Word.{spaced};
 ghost use Rattle.drum_machine.specs.WaysLeft.{seen_way};
-ghost use Rattle.drum_lines.specs.Sent.{IsSent, failed_writes};
+ghost use Rattle.drum_devices.specs.Device.{failures_after};
+ghost use Rattle.drum_lines.specs.Sent.{IsSent};
 ghost use Rattle.drum_hop_lines.specs.HeldText.{acted_text, acting as acting_in, words_text};
 
 use crate::timed_hop::TimedHop;
@@ -38,9 +39,10 @@ fn send_spaced<O: Output>(writer: &mut O, sent: usize, words: &[Word]) -> Result
     requires called { O.called writer.old + 200 ≤ 2 ^ 63 }
     requires few { sent + 200 ≤ 2 ^ 63 }
     requires ten { length words.now ≤ 10 }
-    ensures sent { IsSent (O.written writer.old) (O.written writer.new) sent result
+    ensures sent { IsSent (O.device writer.old).written (O.device writer.new).written sent result
         (spaced words.now) }
-    ensures failures { O.failed writer.new ≡ O.failed writer.old + failed_writes result }
+    ensures failures { (O.device writer.new).failures
+        ≡ failures_after result (O.device writer.old).failures }
     ensures calls { O.called writer.new ≤ O.called writer.old + 120 }
     ensures few { IfOk result (λ total. total ≤ sent + 120) }
 {
@@ -66,9 +68,10 @@ fn send_words<O: Output>(
     requires short { length name.now ≤ 20 }
     requires there { at + count ≤ length drum.now }
     requires ten { count ≤ 10 }
-    ensures sent { IsSent (O.written writer.old) (O.written writer.new) sent result
+    ensures sent { IsSent (O.device writer.old).written (O.device writer.new).written sent result
         (name.now ++ words_text drum.now at count) }
-    ensures failures { O.failed writer.new ≡ O.failed writer.old + failed_writes result }
+    ensures failures { (O.device writer.new).failures
+        ≡ failures_after result (O.device writer.old).failures }
     ensures calls { O.called writer.new ≤ O.called writer.old + 150 }
     ensures few { IfOk result (λ total. total ≤ sent + 150) }
 {
@@ -90,9 +93,10 @@ pub fn send_acted<O: Output>(
     requires few { sent ≤ 2 ^ 61 + 2 ^ 60 }
     requires all { length drum.now ≡ 2000 }
     ensures sent { let ins = told.now.instruction in
-        IsSent (O.written writer.old) (O.written writer.new) sent result
+        IsSent (O.device writer.old).written (O.device writer.new).written sent result
         (acted_text (acting_in (seen_way told.now.way) (op_of ins.op) ins.d) ins.d drum.now) }
-    ensures failures { O.failed writer.new ≡ O.failed writer.old + failed_writes result }
+    ensures failures { (O.device writer.new).failures
+        ≡ failures_after result (O.device writer.old).failures }
     ensures calls { O.called writer.new ≤ O.called writer.old + 150 }
     ensures few { IfOk result (λ total. total ≤ sent + 150) }
 {

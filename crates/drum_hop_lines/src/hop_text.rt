@@ -2,7 +2,8 @@
 
 ghost use Rattle.std.specs.Prelude.{◌≡◌, ◌+◌, ◌^◌, ◌≤◌, ◌++◌, IfOk, length};
 ghost use Rattle.drum_machine.specs.WaysLeft.{seen_way};
-ghost use Rattle.drum_lines.specs.Sent.{IsSent, failed_writes};
+ghost use Rattle.drum_devices.specs.Device.{failures_after};
+ghost use Rattle.drum_lines.specs.Sent.{IsSent};
 ghost use Rattle.drum_hop_lines.specs.Pieces.{onto_digits, way_name as name_of};
 ghost use Rattle.drum_hop_lines.specs.TimedHop.{seen_timed};
 ghost use Rattle.drum_hop_lines.specs.WalkText.{hop_text};
@@ -56,9 +57,10 @@ pub fn send_hop<O: Output, I: Integer>(
     requires called { O.called writer.old ≤ 2 ^ 62 + 2 ^ 60 }
     requires few { sent ≤ 2 ^ 60 }
     requires short { length name.now ≤ 10 }
-    ensures sent { IsSent (O.written writer.old) (O.written writer.new) sent result
+    ensures sent { IsSent (O.device writer.old).written (O.device writer.new).written sent result
         (hop_text (seen_timed told.now) ++ name.now ++ I.text number) }
-    ensures failures { O.failed writer.new ≡ O.failed writer.old + failed_writes result }
+    ensures failures { (O.device writer.new).failures
+        ≡ failures_after result (O.device writer.old).failures }
     ensures calls { O.called writer.new ≤ O.called writer.old + 80 }
     ensures few { IfOk result (λ total. total ≤ sent + 80) }
 {

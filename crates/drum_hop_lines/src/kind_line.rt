@@ -4,7 +4,8 @@ ghost use Rattle.std.specs.Prelude.{◌≡◌, ◌+◌, ◌^◌, ◌≤◌, IfOk
 ghost use Rattle.drum_core.specs.Op.{op_of};
 ghost use Rattle.drum_times.specs.Entries.{entry_in};
 ghost use Rattle.drum_machine.specs.WaysLeft.{seen_way};
-ghost use Rattle.drum_lines.specs.Sent.{IsSent, failed_writes};
+ghost use Rattle.drum_devices.specs.Device.{failures_after};
+ghost use Rattle.drum_lines.specs.Sent.{IsSent};
 ghost use Rattle.drum_hop_lines.specs.Pieces.{angles_text, sums_text};
 ghost use Rattle.drum_hop_lines.specs.TimedHop.{seen_timed};
 ghost use Rattle.drum_hop_lines.specs.Waits.{data_angle, next_angle, on_drum};
@@ -60,9 +61,10 @@ fn next_at(told: &TimedHop, angle: u8) -> Option<u64>
 fn send_sums<O: Output>(writer: &mut O, sent: usize, sums: &Sums) -> Result<usize, WriteFault>
     requires called { O.called writer.old ≤ 2 ^ 62 + 2 ^ 61 }
     requires few { sent ≤ 2 ^ 61 }
-    ensures sent { IsSent (O.written writer.old) (O.written writer.new) sent result
+    ensures sent { IsSent (O.device writer.old).written (O.device writer.new).written sent result
         (sums_text sums.now) }
-    ensures failures { O.failed writer.new ≡ O.failed writer.old + failed_writes result }
+    ensures failures { (O.device writer.new).failures
+        ≡ failures_after result (O.device writer.old).failures }
     ensures calls { O.called writer.new ≤ O.called writer.old + 200 }
     ensures few { IfOk result (λ total. total ≤ sent + 200) }
 {
@@ -93,9 +95,10 @@ fn send_angles<O: Output>(
 ) -> Result<usize, WriteFault>
     requires called { O.called writer.old ≤ 2 ^ 62 + 2 ^ 61 }
     requires few { sent ≤ 2 ^ 61 }
-    ensures sent { IsSent (O.written writer.old) (O.written writer.new) sent result
+    ensures sent { IsSent (O.device writer.old).written (O.device writer.new).written sent result
         (angles_text operand next) }
-    ensures failures { O.failed writer.new ≡ O.failed writer.old + failed_writes result }
+    ensures failures { (O.device writer.new).failures
+        ≡ failures_after result (O.device writer.old).failures }
     ensures calls { O.called writer.new ≤ O.called writer.old + 100 }
     ensures few { IfOk result (λ total. total ≤ sent + 100) }
 {
@@ -130,10 +133,11 @@ pub fn send_kind<O: Output>(
     requires called { O.called writer.old ≤ 2 ^ 62 + 2 ^ 60 }
     requires few { sent ≤ 2 ^ 60 }
     requires early { told.now.begun ≤ 2 ^ 62 }
-    ensures sent { IsSent (O.written writer.old) (O.written writer.new) sent result
+    ensures sent { IsSent (O.device writer.old).written (O.device writer.new).written sent result
         (kind_line (entry_in times.now) angle (seen_timed told.now) sums.now.visits
         sums.now.time sums.now.instruction sums.now.operand) }
-    ensures failures { O.failed writer.new ≡ O.failed writer.old + failed_writes result }
+    ensures failures { (O.device writer.new).failures
+        ≡ failures_after result (O.device writer.old).failures }
     ensures calls { O.called writer.new ≤ O.called writer.old + 400 }
     ensures few { IfOk result (λ total. total ≤ sent + 400) }
 {

@@ -1,5 +1,6 @@
 ghost use Rattle.std.specs.Prelude.{◌≡◌, ℕ, ◌+◌, ◌^◌, ◌≤◌, List, IfOk};
-ghost use Rattle.drum_lines.specs.Sent.{IsSent, failed_writes};
+ghost use Rattle.drum_devices.specs.Device.{failures_after};
+ghost use Rattle.drum_lines.specs.Sent.{IsSent};
 
 use drum_devices::Output;
 use drum_lines::WriteFault;
@@ -18,9 +19,11 @@ pub trait Line {
     fn send<O: Output>(&self, writer: &mut O, sent: usize) -> Result<usize, WriteFault>
         requires called { O.called writer.old ≤ 2 ^ 62 + 2 ^ 60 }
         requires few { sent ≤ 2 ^ 60 }
-        ensures sent { IsSent (O.written writer.old) (O.written writer.new) sent result
+        ensures sent { IsSent (O.device writer.old).written (O.device writer.new).written
+            sent result
             (text self.now) }
-        ensures failures { O.failed writer.new ≡ O.failed writer.old + failed_writes result }
+        ensures failures { (O.device writer.new).failures
+            ≡ failures_after result (O.device writer.old).failures }
         ensures calls { O.called writer.new ≤ O.called writer.old + 1000 }
         ensures few { IfOk result (λ total. total ≤ sent + 1000) };
 }

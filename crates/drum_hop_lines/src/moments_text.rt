@@ -1,7 +1,8 @@
 //! The moments of an instruction, and when its step ends, in a line.
 
 ghost use Rattle.std.specs.Prelude.{◌≡◌, ◌+◌, ◌^◌, ◌≤◌, IfOk, length, option_map};
-ghost use Rattle.drum_lines.specs.Sent.{IsSent, failed_writes};
+ghost use Rattle.drum_devices.specs.Device.{failures_after};
+ghost use Rattle.drum_lines.specs.Sent.{IsSent};
 ghost use Rattle.drum_hop_lines.specs.Moments.{later as later_by};
 ghost use Rattle.drum_hop_lines.specs.Pieces.{digits_with as digits_at, name_with as name_at};
 ghost use Rattle.drum_hop_lines.specs.Pieces.{told_text, times_text};
@@ -47,9 +48,10 @@ fn send_told<O: Output, I: Integer>(
     requires called { O.called writer.old ≤ 2 ^ 62 + 2 ^ 61 }
     requires few { sent ≤ 2 ^ 61 }
     requires short { length last.now ≤ 1 }
-    ensures sent { IsSent (O.written writer.old) (O.written writer.new) sent result
+    ensures sent { IsSent (O.device writer.old).written (O.device writer.new).written sent result
         (told_text I.text found ready operand ended last.now) }
-    ensures failures { O.failed writer.new ≡ O.failed writer.old + failed_writes result }
+    ensures failures { (O.device writer.new).failures
+        ≡ failures_after result (O.device writer.old).failures }
     ensures calls { O.called writer.new ≤ O.called writer.old + 200 }
     ensures few { IfOk result (λ total. total ≤ sent + 200) }
 {
@@ -83,9 +85,10 @@ pub fn send_times<O: Output>(
     requires called { O.called writer.old ≤ 2 ^ 62 + 2 ^ 61 }
     requires few { sent ≤ 2 ^ 61 }
     requires short { length last.now ≤ 1 }
-    ensures sent { IsSent (O.written writer.old) (O.written writer.new) sent result
+    ensures sent { IsSent (O.device writer.old).written (O.device writer.new).written sent result
         (times_text moments.now ended last.now) }
-    ensures failures { O.failed writer.new ≡ O.failed writer.old + failed_writes result }
+    ensures failures { (O.device writer.new).failures
+        ≡ failures_after result (O.device writer.old).failures }
     ensures calls { O.called writer.new ≤ O.called writer.old + 200 }
     ensures few { IfOk result (λ total. total ≤ sent + 200) }
 {
@@ -128,9 +131,10 @@ pub fn send_times_later<O: Output>(
     requires few { sent ≤ 2 ^ 61 }
     requires fits { by + 2 ^ 64 ≤ 2 ^ 128 }
     requires short { length last.now ≤ 1 }
-    ensures sent { IsSent (O.written writer.old) (O.written writer.new) sent result
+    ensures sent { IsSent (O.device writer.old).written (O.device writer.new).written sent result
         (times_text (later_by by moments.now) ended last.now) }
-    ensures failures { O.failed writer.new ≡ O.failed writer.old + failed_writes result }
+    ensures failures { (O.device writer.new).failures
+        ≡ failures_after result (O.device writer.old).failures }
     ensures calls { O.called writer.new ≤ O.called writer.old + 200 }
     ensures few { IfOk result (λ total. total ≤ sent + 200) }
 {

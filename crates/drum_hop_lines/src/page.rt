@@ -16,7 +16,6 @@ pub struct Page {
     failures: u64,
     ghost within: { held ≤ 65536 },
     ghost room: { length bytes ≡ 65536 },
-    ghost counted: { failures ≤ calls },
 }
 
 impl Page {
@@ -63,20 +62,20 @@ impl Page {
 
 impl Output for Page {
     ghost use Rattle.std.specs.Prelude.{Some, take};
+    ghost use Rattle.drum_devices.specs.Device.{device};
 
-    ghost written = { λ page. Some (take page.held page.bytes) };
+    ghost device = { λ page. device (Some (take page.held page.bytes)) page.failures };
 
     ghost called = { λ page. page.calls };
 
-    ghost failed = { λ page. page.failures };
-
+    #[tactic(auto, unfolding(drum_devices::specs::Device::one_more))]
     fn write(&mut self, buf: &[u8]) -> Result<usize, Failed> {
-        self.calls += 1;
+        self.calls = self.calls.saturating_add(1);
         let count = buf.len().min(ROOM - self.held);
         self.bytes[self.held..self.held + count].copy_from_slice(&buf[..count]);
         self.held += count;
         if count == 0 && !buf.is_empty() {
-            self.failures += 1;
+            self.failures = self.failures.saturating_add(1);
         }
         Ok(count)
     }

@@ -2,7 +2,8 @@
 
 ghost use Rattle.std.specs.Prelude.{◌≡◌, ◌+◌, ◌^◌, ◌≤◌, ◌++◌, [], ℕ, true, false, List, Option, Ok};
 ghost use Rattle.std.specs.Prelude.{IfOk, OnOk, length};
-ghost use Rattle.drum_lines.specs.Sent.{IsSent, failed_writes};
+ghost use Rattle.drum_devices.specs.Device.{failures_after};
+ghost use Rattle.drum_lines.specs.Sent.{IsSent};
 ghost use Rattle.drum_hop_lines.specs.Page.{HasPassed, text_of};
 
 use crate::line::Line;
@@ -38,9 +39,10 @@ fn send_behind<O: Output, L: Line>(
 ) -> Result<usize, WriteFault>
     requires called { O.called writer.old + length (text_of page.old) ≤ 2 ^ 62 + 2 ^ 60 }
     requires few { sent + length (text_of page.old) ≤ 2 ^ 60 }
-    ensures sent { IsSent (O.written writer.old) (O.written writer.new) sent result
+    ensures sent { IsSent (O.device writer.old).written (O.device writer.new).written sent result
         (text_of page.old ++ L.text line.now) }
-    ensures failures { O.failed writer.new ≡ O.failed writer.old + failed_writes result }
+    ensures failures { (O.device writer.new).failures
+        ≡ failures_after result (O.device writer.old).failures }
     ensures empty { OnOk result (text_of page.new ≡ []) }
     ensures gathered { ⟦<Page as Output>⟧.called page.new ≡ ⟦<Page as Output>⟧.called page.old }
     ensures calls { O.called writer.new
@@ -65,10 +67,11 @@ pub fn pass_line<O: Output, L: Line>(
     requires few { sent + length (text_of page.old) ≤ 2 ^ 60 }
     requires gathered { ⟦<Page as Output>⟧.called page.old ≤ 2 ^ 62 }
     ensures sent { (begun : Option (List ℕ)) (gone : List ℕ)
-        → IsSent begun (O.written writer.old) 0 (Ok sent) gone
-        → HasPassed begun (O.written writer.new) result (gone ++ (text_of page.old
+        → IsSent begun (O.device writer.old).written 0 (Ok sent) gone
+        → HasPassed begun (O.device writer.new).written result (gone ++ (text_of page.old
         ++ L.text line.now)) (text_of page.new) }
-    ensures failures { O.failed writer.new ≡ O.failed writer.old + failed_writes result }
+    ensures failures { (O.device writer.new).failures
+        ≡ failures_after result (O.device writer.old).failures }
     ensures gathered { ⟦<Page as Output>⟧.called page.new
         ≤ ⟦<Page as Output>⟧.called page.old + 1000 }
     ensures calls { OnOk result (O.called writer.new + length (text_of page.new)

@@ -3,7 +3,8 @@
 ghost use Rattle.std.specs.Prelude.{◌≡◌, ◌+◌, ◌^◌, ◌≤◌, List, IfOk, length};
 ghost use Rattle.drum_machine.specs.declared.card.Card.{Card};
 ghost use Rattle.drum_emulator.specs.Machine.{held_by};
-ghost use Rattle.drum_lines.specs.Sent.{IsSent, failed_writes};
+ghost use Rattle.drum_devices.specs.Device.{failures_after};
+ghost use Rattle.drum_lines.specs.Sent.{IsSent};
 ghost use Rattle.drum_hop_lines.specs.HeldText.{
   accumulator_text,
   latch_text as latch_of,
@@ -80,9 +81,11 @@ pub fn send_registers<O: Output>(
 ) -> Result<usize, WriteFault>
     requires called { O.called writer.old ≤ 2 ^ 62 + 2 ^ 61 }
     requires few { sent ≤ 2 ^ 61 }
-    ensures sent { (cards : List Card) → IsSent (O.written writer.old) (O.written writer.new) sent
+    ensures sent { (cards : List Card) →
+        IsSent (O.device writer.old).written (O.device writer.new).written sent
         result (registers_text (held_by machine.now cards)) }
-    ensures failures { O.failed writer.new ≡ O.failed writer.old + failed_writes result }
+    ensures failures { (O.device writer.new).failures
+        ≡ failures_after result (O.device writer.old).failures }
     ensures calls { O.called writer.new ≤ O.called writer.old + 90 }
     ensures few { IfOk result (λ total. total ≤ sent + 90) }
 {

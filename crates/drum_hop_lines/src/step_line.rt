@@ -13,7 +13,8 @@ ghost use Rattle.drum_emulator.specs.Machine.{held_by};
 ghost use Rattle.drum_emulator.specs.Machine.{IsToldOf};
 ghost use Rattle.drum_flow.specs.RunHops.{hop_of};
 ghost use Rattle.drum_walks.specs.Visited.{visited};
-ghost use Rattle.drum_lines.specs.Sent.{IsSent, failed_writes};
+ghost use Rattle.drum_devices.specs.Device.{failures_after};
+ghost use Rattle.drum_lines.specs.Sent.{IsSent};
 ghost use Rattle.drum_hop_lines.specs.Pieces.{fetch_text, held_text, times_text};
 ghost use Rattle.drum_hop_lines.specs.TimedHop.{seen_timed};
 ghost use Rattle.drum_hop_lines.specs.TraceText.{stride_line};
@@ -98,9 +99,10 @@ fn send_fetch<O: Output>(
 ) -> Result<usize, WriteFault>
     requires called { O.called writer.old ≤ 2 ^ 62 + 2 ^ 60 }
     requires few { sent ≤ 2 ^ 60 }
-    ensures sent { IsSent (O.written writer.old) (O.written writer.new) sent result
+    ensures sent { IsSent (O.device writer.old).written (O.device writer.new).written sent result
         (fetch_text number origin.number word begun) }
-    ensures failures { O.failed writer.new ≡ O.failed writer.old + failed_writes result }
+    ensures failures { (O.device writer.new).failures
+        ≡ failures_after result (O.device writer.old).failures }
     ensures calls { O.called writer.new ≤ O.called writer.old + 100 }
     ensures short { length (fetch_text number origin.number word begun) ≤ 100 }
 {
@@ -133,10 +135,11 @@ fn send_course<O: Output>(
 ) -> Result<usize, WriteFault>
     requires called { O.called writer.old ≤ 2 ^ 62 + 2 ^ 60 }
     requires few { sent ≤ 2 ^ 60 }
-    ensures sent { IsSent (O.written writer.old) (O.written writer.new) sent result
+    ensures sent { IsSent (O.device writer.old).written (O.device writer.new).written sent result
         (fetch_text number told.now.place.number word told.now.begun
         ++ times_text moments.now told.now.ended []) }
-    ensures failures { O.failed writer.new ≡ O.failed writer.old + failed_writes result }
+    ensures failures { (O.device writer.new).failures
+        ≡ failures_after result (O.device writer.old).failures }
     ensures calls { O.called writer.new ≤ O.called writer.old + 300 }
     ensures few { IfOk result (λ total. total ≤ sent + 300) }
 {
@@ -154,9 +157,11 @@ fn send_held<O: Output>(
 ) -> Result<usize, WriteFault>
     requires called { O.called writer.old ≤ 2 ^ 62 + 2 ^ 61 }
     requires few { sent ≤ 2 ^ 61 }
-    ensures sent { (cards : List Card) → IsSent (O.written writer.old) (O.written writer.new) sent
+    ensures sent { (cards : List Card) →
+        IsSent (O.device writer.old).written (O.device writer.new).written sent
         result (held_text (seen_timed told.now) (held_by machine.now cards)) }
-    ensures failures { O.failed writer.new ≡ O.failed writer.old + failed_writes result }
+    ensures failures { (O.device writer.new).failures
+        ≡ failures_after result (O.device writer.old).failures }
     ensures calls { O.called writer.new ≤ O.called writer.old + 300 }
     ensures few { IfOk result (λ total. total ≤ sent + 300) }
 {
@@ -189,9 +194,10 @@ pub fn send_step<O: Output>(
     ensures sent { (stride : Stride) → IsToldOf (entry_in times.now) stride step.now
         → stride.origin.first_angle ≡ angle → stride.origin.time ≡ before
         → (cards : List Card) → held_by machine.now cards ≡ contents_after stride.outcome
-        → IsSent (O.written writer.old) (O.written writer.new) sent result
+        → IsSent (O.device writer.old).written (O.device writer.new).written sent result
         (stride_line (entry_in times.now) number stride) }
-    ensures failures { O.failed writer.new ≡ O.failed writer.old + failed_writes result }
+    ensures failures { (O.device writer.new).failures
+        ≡ failures_after result (O.device writer.old).failures }
     ensures calls { O.called writer.new ≤ O.called writer.old + 1000 }
     ensures few { IfOk result (λ total. total ≤ sent + 1000) }
 {

@@ -4,7 +4,8 @@ ghost use Rattle.std.specs.Prelude.{◌≡◌, ◌+◌, ◌^◌, ◌≤◌, ◌+
 ghost use Rattle.std.specs.Prelude.{IfOk, OnOk, length};
 ghost use Rattle.drum_times.specs.Entries.{entry_in};
 ghost use Rattle.drum_machine.specs.Run.{Stride};
-ghost use Rattle.drum_lines.specs.Sent.{IsSent, failed_writes};
+ghost use Rattle.drum_devices.specs.Device.{failures_after};
+ghost use Rattle.drum_lines.specs.Sent.{IsSent};
 ghost use Rattle.drum_hop_lines.specs.Page.{HasPassed, text_of};
 ghost use Rattle.drum_hop_lines.specs.StepOf.{IsStepOf};
 ghost use Rattle.drum_hop_lines.specs.TraceText.{stride_line};
@@ -66,9 +67,10 @@ fn send_behind<O: Output>(
     requires early { before ≤ 2 ^ 62 }
     ensures sent { (stride : Stride)
         → IsStepOf (entry_in times.now) angle before step.now machine.now stride
-        → IsSent (O.written writer.old) (O.written writer.new) sent result
+        → IsSent (O.device writer.old).written (O.device writer.new).written sent result
         (text_of page.old ++ stride_line (entry_in times.now) number stride) }
-    ensures failures { O.failed writer.new ≡ O.failed writer.old + failed_writes result }
+    ensures failures { (O.device writer.new).failures
+        ≡ failures_after result (O.device writer.old).failures }
     ensures empty { OnOk result (text_of page.new ≡ []) }
     ensures gathered { ⟦<Page as Output>⟧.called page.new ≡ ⟦<Page as Output>⟧.called page.old }
     ensures calls { O.called writer.new
@@ -109,10 +111,11 @@ pub fn pass_step<O: Output>(
     ensures sent { (stride : Stride)
         → IsStepOf (entry_in times.now) angle before step.now machine.now stride
         → (begun : Option (List ℕ)) (gone : List ℕ)
-        → IsSent begun (O.written writer.old) 0 (Ok sent) gone
-        → HasPassed begun (O.written writer.new) result (gone ++ (text_of page.old
+        → IsSent begun (O.device writer.old).written 0 (Ok sent) gone
+        → HasPassed begun (O.device writer.new).written result (gone ++ (text_of page.old
         ++ stride_line (entry_in times.now) number stride)) (text_of page.new) }
-    ensures failures { O.failed writer.new ≡ O.failed writer.old + failed_writes result }
+    ensures failures { (O.device writer.new).failures
+        ≡ failures_after result (O.device writer.old).failures }
     ensures gathered { ⟦<Page as Output>⟧.called page.new
         ≤ ⟦<Page as Output>⟧.called page.old + 1000 }
     ensures calls { OnOk result (O.called writer.new + length (text_of page.new)

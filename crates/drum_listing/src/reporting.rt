@@ -3,7 +3,8 @@
 ghost use Rattle.std.specs.Prelude.{◌≡◌, ◌+◌, ◌^◌, ◌≤◌};
 ghost use Rattle.drum_bound.specs.AnalysisOf.{visits_of};
 ghost use Rattle.drum_listing.specs.Report.{report_text};
-ghost use Rattle.drum_lines.specs.Sent.{IsWritten, failed_writes};
+ghost use Rattle.drum_devices.specs.Device.{failures_after};
+ghost use Rattle.drum_lines.specs.Sent.{IsWritten};
 
 mod sending;
 mod tallies;
@@ -33,9 +34,10 @@ pub fn report<O: Output>(
     writer: &mut O,
 ) -> Result<(), WriteFault>
     requires { O.called writer.old ≤ 2 ^ 62 }
-    ensures written { IsWritten (O.written writer.old) (O.written writer.new) result
+    ensures written { IsWritten (O.device writer.old).written (O.device writer.new).written result
         (report_text deck.now notes.now (visits_of analysis.now)) }
-    ensures failures { O.failed writer.new ≡ O.failed writer.old + failed_writes result }
+    ensures failures { (O.device writer.new).failures
+        ≡ failures_after result (O.device writer.old).failures }
     ensures calls { O.called writer.new ≤ O.called writer.old + 487920 }
 {
     let bound = analysis.bound();

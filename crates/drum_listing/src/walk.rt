@@ -4,7 +4,8 @@ ghost use Rattle.std.specs.Prelude.{◌≡◌, ◌+◌, ◌^◌, ◌≤◌, IfOk
 ghost use Rattle.drum_times.specs.Entries.{entry_in};
 ghost use Rattle.drum_walks.specs.Visited.{seen_visit};
 ghost use Rattle.drum_bound.specs.AnalysisOf.{angle_of, bound_of, visits_of};
-ghost use Rattle.drum_lines.specs.Sent.{IsSent, IsWritten, failed_writes};
+ghost use Rattle.drum_devices.specs.Device.{failures_after};
+ghost use Rattle.drum_lines.specs.Sent.{IsSent, IsWritten};
 ghost use Rattle.drum_hop_lines.specs.WalkText.{visit_line, walk_text};
 
 use drum_bound::Analysis;
@@ -23,9 +24,10 @@ fn send_visits<O: Output>(
 ) -> Result<usize, WriteFault>
     requires called { O.called writer.old ≤ 2 ^ 62 }
     requires few { length walk.now ≤ 4000000 }
-    ensures sent { IsSent (O.written writer.old) (O.written writer.new) 0 result
+    ensures sent { IsSent (O.device writer.old).written (O.device writer.new).written 0 result
         (flat_map (λ visit. visit_line (entry_in times.now) angle (seen_visit visit)) walk.now) }
-    ensures failures { O.failed writer.new ≡ O.failed writer.old + failed_writes result }
+    ensures failures { (O.device writer.new).failures
+        ≡ failures_after result (O.device writer.old).failures }
     ensures calls { O.called writer.new ≤ O.called writer.old + 4000000000 }
     ensures few { IfOk result (λ total. total ≤ 4000000000) }
 {
@@ -56,10 +58,11 @@ pub fn list_walk<O: Output>(
     writer: &mut O,
 ) -> Result<(), WriteFault>
     requires { O.called writer.old ≤ 2 ^ 62 }
-    ensures written { IsWritten (O.written writer.old) (O.written writer.new) result
+    ensures written { IsWritten (O.device writer.old).written (O.device writer.new).written result
         (walk_text (entry_in times.now) (angle_of analysis.now) (visits_of analysis.now)
         (bound_of analysis.now)) }
-    ensures failures { O.failed writer.new ≡ O.failed writer.old + failed_writes result }
+    ensures failures { (O.device writer.new).failures
+        ≡ failures_after result (O.device writer.old).failures }
 {
     let bound = analysis.bound();
     let sent = send_visits(writer, analysis.walk(), times, analysis.angle())?;

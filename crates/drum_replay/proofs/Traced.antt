@@ -23,7 +23,9 @@ use Rattle.drum_emulator.specs.Fed.{op_in, waits_with}
 use Rattle.drum_flow.specs.Walk.{Setting}
 use Rattle.drum_lines.specs.declared.status.Status.{Status}
 use Rattle.drum_lines.specs.declared.status.Status.TheVariants.{Failed}
-use Rattle.drum_lines.specs.Output.{Device, GetsAll, GetsResult}
+use Rattle.drum_devices.specs.Device.{Device, one_more}
+use Rattle.drum_lines.specs.Output.{GetsResult}
+use Rattle.drum_sheet.specs.Gets.{GetsAll}
 use Rattle.drum_hop_lines.specs.TraceText.{stride_line, stride_lines}
 use Rattle.drum_replay.specs.declared.replaying.Begun.{Begun}
 use Rattle.drum_replay.specs.Begun.{IsBegun}
@@ -149,14 +151,14 @@ gets_behind old mid new prefix text ending status all (inr (rest, is)) =
         omega (arith, rest.1, length-append prefix text),
         subst (Appends old.written new.written) (sym (take_behind rest.0 prefix text))
             (Appends-then old.written mid.written new.written prefix (take rest.0 text) all.0 rest.2),
-        rest.3 ∙ ap (λ (n : ℕ). n + 1) all.1,
+        rest.3 ∙ ap one_more all.1,
       ),
       is,
     )
 
 -- a text that is cut before another behind it
 pub gets_cut : (old new : Device) (count : ℕ) (prefix text : List ℕ) (ending : Status) → count < length prefix
-    → Appends old.written new.written (take count prefix) → new.failures ≡ old.failures + 1
+    → Appends old.written new.written (take count prefix) → new.failures ≡ one_more old.failures
     → GetsResult old new (prefix ++ text) ending Failed
 gets_cut old new count prefix text ending short gone failed =
     inr (

@@ -4,7 +4,8 @@ ghost use Rattle.std.specs.Prelude.{◌≡◌, ◌+◌, ◌^◌, ◌≤◌, List
 ghost use Rattle.std.specs.List.{enumerate_from};
 ghost use Rattle.drum_times.specs.Listed.{listed};
 ghost use Rattle.drum_machine.specs.Run.{Stride};
-ghost use Rattle.drum_lines.specs.Sent.{IsSent, IsWritten, failed_writes};
+ghost use Rattle.drum_devices.specs.Device.{failures_after};
+ghost use Rattle.drum_lines.specs.Sent.{IsSent, IsWritten};
 ghost use Rattle.drum_replay.specs.Coverage.{coverage_text, list_line, mark_line, mark_line_at};
 ghost use Rattle.drum_replay.specs.CoverageOf.{HasSeen, list_line_at, passed_at};
 
@@ -23,9 +24,10 @@ fn send_mark<O: Output>(
 ) -> Result<usize, WriteFault>
     requires called { O.called writer.old ≤ 2 ^ 62 + 2 ^ 60 }
     requires few { sent ≤ 2 ^ 40 }
-    ensures sent { IsSent (O.written writer.old) (O.written writer.new) sent result
+    ensures sent { IsSent (O.device writer.old).written (O.device writer.new).written sent result
         (mark_line mark.now passed) }
-    ensures failures { O.failed writer.new ≡ O.failed writer.old + failed_writes result }
+    ensures failures { (O.device writer.new).failures
+        ≡ failures_after result (O.device writer.old).failures }
     ensures calls { O.called writer.new ≤ O.called writer.old + 170 }
     ensures short { length (mark_line mark.now passed) ≤ 170 }
 {
@@ -57,9 +59,10 @@ fn send_marks<O: Output>(
 ) -> Result<usize, WriteFault>
     requires called { O.called writer.old + 2 ^ 40 ≤ 2 ^ 62 + 2 ^ 60 }
     requires marks { length marks.now ≤ 64 }
-    ensures sent { IsSent (O.written writer.old) (O.written writer.new) 0 result
+    ensures sent { IsSent (O.device writer.old).written (O.device writer.new).written 0 result
         (flat_map (mark_line_at (passed_at coverage.now)) (enumerate_from 0 marks.now)) }
-    ensures failures { O.failed writer.new ≡ O.failed writer.old + failed_writes result }
+    ensures failures { (O.device writer.new).failures
+        ≡ failures_after result (O.device writer.old).failures }
     ensures calls { O.called writer.new ≤ O.called writer.old + 10880 }
     ensures few { IfOk result (λ total. total ≤ 10880) }
 {
@@ -79,9 +82,10 @@ fn send_list<O: Output>(
 ) -> Result<usize, WriteFault>
     requires called { O.called writer.old ≤ 2 ^ 62 + 2 ^ 60 }
     requires few { sent ≤ 2 ^ 40 }
-    ensures sent { IsSent (O.written writer.old) (O.written writer.new) sent result
+    ensures sent { IsSent (O.device writer.old).written (O.device writer.new).written sent result
         (list_line (listed list.now) met) }
-    ensures failures { O.failed writer.new ≡ O.failed writer.old + failed_writes result }
+    ensures failures { (O.device writer.new).failures
+        ≡ failures_after result (O.device writer.old).failures }
     ensures calls { O.called writer.new ≤ O.called writer.old + 120 }
     ensures short { length (list_line (listed list.now) met) ≤ 120 }
 {
@@ -110,9 +114,10 @@ fn send_lists<O: Output>(
     requires begun { begun ≤ 10880 }
     requires few { length lists.now ≤ 10000 }
     requires sized { length coverage.now.met.items ≡ length lists.now }
-    ensures sent { IsSent (O.written writer.old) (O.written writer.new) begun result
+    ensures sent { IsSent (O.device writer.old).written (O.device writer.new).written begun result
         (flat_map (list_line_at coverage.now) (enumerate_from 0 lists.now)) }
-    ensures failures { O.failed writer.new ≡ O.failed writer.old + failed_writes result }
+    ensures failures { (O.device writer.new).failures
+        ≡ failures_after result (O.device writer.old).failures }
     ensures calls { O.called writer.new ≤ O.called writer.old + 1200000 }
 {
     let mut sent = begun;
@@ -137,9 +142,10 @@ pub fn send_coverage<O: Output>(
     requires called { O.called writer.old + 2 ^ 40 ≤ 2 ^ 62 + 2 ^ 60 }
     requires sized { length coverage.now.met.items ≡ length notes.now.lists }
     ensures written { (strides : List Stride) → HasSeen notes.now strides coverage.now
-        → IsWritten (O.written writer.old) (O.written writer.new) result
+        → IsWritten (O.device writer.old).written (O.device writer.new).written result
         (coverage_text notes.now strides) }
-    ensures failures { O.failed writer.new ≡ O.failed writer.old + failed_writes result }
+    ensures failures { (O.device writer.new).failures
+        ≡ failures_after result (O.device writer.old).failures }
     ensures calls { O.called writer.new ≤ O.called writer.old + 2 ^ 40 }
 {
     let sent = send_marks(writer, notes.marks(), coverage)?;

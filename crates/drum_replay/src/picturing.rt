@@ -1,10 +1,10 @@
 //! A run that is followed as a replay, and drawn.
 
-ghost use Rattle.std.specs.Prelude.{◌^◌, ◌<◌, ◌≤◌, ℕ, IfErr, IfOk, List, [], length, string_bytes};
+ghost use Rattle.std.specs.Prelude.{◌^◌, ◌<◌, ℕ, IfErr, IfOk, List, [], string_bytes};
 ghost use Rattle.drum_machine.specs.Run.{Stride};
 ghost use Rattle.drum_flow.specs.Bounded.{IsBounded};
 ghost use Rattle.drum_flow.specs.SettingOf.{setting};
-ghost use Rattle.drum_lines.specs.Output.{GetsResult, device};
+ghost use Rattle.drum_lines.specs.Output.{GetsResult};
 ghost use Rattle.drum_lines.specs.Status.{status_of};
 ghost use Rattle.drum_documents.specs.Documents.{setting_of};
 ghost use Rattle.drum_replay.specs.Begun.{IsBegun, IsReady};
@@ -25,9 +25,6 @@ use drum_machine::Verdict;
 use drum_picture::{Run, picture_of_run};
 use drum_times::{Notes, Times};
 use std::alloc::{AllocError, Global};
-
-/// The most bytes of a picture that is printed.
-const PICTURE_BYTES: usize = 1 << 61;
 
 /// A run that was followed to its verdict, and drawn.
 #[derive(Debug, Drop)]
@@ -121,7 +118,6 @@ fn draw(alloc: Global, documents: &Documents, begun: Begun) -> Result<Pictured, 
 pub fn picture_run(alloc: Global, documents: &Documents, inputs: Inputs) -> Result<Pictured, Fault>
     ensures verdict { IfOk result (λ pictured.
         IsReplay (setting_of documents.now) (given inputs) pictured.verdict) }
-    ensures short { IfOk result (λ pictured. length (string_bytes pictured.picture) ≤ 2 ^ 61) }
     ensures refused { IfErr result (IsReplayFault (setting_of documents.now) (given inputs)) }
 {
     let begun = begin_replay(
@@ -132,17 +128,14 @@ pub fn picture_run(alloc: Global, documents: &Documents, inputs: Inputs) -> Resu
         inputs,
     )?;
     match draw(alloc, documents, begun) {
-        Ok(pictured) if pictured.picture.len() <= PICTURE_BYTES => Ok(pictured),
-        _ => Err(Fault::Refused(Refusal::Memory)),
+        Ok(pictured) => Ok(pictured),
+        Err(_) => Err(Fault::Refused(Refusal::Memory)),
     }
 }
 
 /// Writes the picture of a run; the program then ends as its verdict says.
 pub fn tell_picture<O: Output>(out: &mut O, pictured: &Pictured) -> Status
-    requires out { O.called out.old ≤ 2 ^ 62 }
-    requires short { length (string_bytes pictured.now.picture) ≤ 2 ^ 61 }
-    ensures { GetsResult (device (O.written out.old) (O.failed out.old))
-        (device (O.written out.new) (O.failed out.new)) (string_bytes pictured.now.picture)
+    ensures { GetsResult (O.device out.old) (O.device out.new) (string_bytes pictured.now.picture)
         (status_of pictured.now.verdict) result }
 {
     match tell_text(out, pictured.picture.as_bytes()) {

@@ -6,8 +6,10 @@ ghost use Rattle.drum_times.specs.Entries.{entry_in};
 ghost use Rattle.drum_machine.specs.Run.{Stride};
 ghost use Rattle.drum_flow.specs.SettingOf.{setting};
 ghost use Rattle.drum_flow.specs.Bounded.{IsBounded};
-ghost use Rattle.drum_lines.specs.Sent.{IsWritten, failed_writes};
-ghost use Rattle.drum_lines.specs.Output.{Device, GetsResult, Tells, device};
+ghost use Rattle.drum_devices.specs.Device.{failures_after};
+ghost use Rattle.drum_lines.specs.Sent.{IsWritten};
+ghost use Rattle.drum_devices.specs.Device.{Device};
+ghost use Rattle.drum_lines.specs.Output.{GetsResult, Tells};
 ghost use Rattle.drum_lines.specs.Reply.{Reply};
 ghost use Rattle.drum_lines.specs.Status.{status_of};
 ghost use Rattle.drum_lines.specs.VerdictText.{verdict_text};
@@ -59,10 +61,11 @@ fn send_steps<O: Output>(
         (waits_of following) most strides)
         (λ _. AreUnderWay (setting deck.now times.now notes.now) (state_of following)
         (waits_of following) strides)
-        × IsWritten (O.written out.old) (O.written out.new) result
+        × IsWritten (O.device out.old).written (O.device out.new).written result
         (stride_lines (entry_in times.now) 1 strides)
         × OnOk result (HasSeen notes.now strides coverage.new) }
-    ensures failures { O.failed out.new ≡ O.failed out.old + failed_writes result }
+    ensures failures { (O.device out.new).failures
+        ≡ failures_after result (O.device out.old).failures }
     ensures calls { O.called out.new + 2 ^ 41 ≤ O.called out.old + 2 ^ 60 }
 {
     let mut sent = 0;
@@ -101,10 +104,11 @@ fn send_trace<O: Output>(
         → (strides : List Stride)
         × MatchResult result (IsTraced (setting_of documents.now) given begun.most strides)
         (λ _. IsTracedInPart (setting_of documents.now) given strides)
-        × IsWritten (O.written out.old) (O.written out.new) result
+        × IsWritten (O.device out.old).written (O.device out.new).written result
         (stride_lines (entry_in documents.now.times) 1 strides)
         × OnOk result (HasSeen documents.now.notes strides coverage.new) }
-    ensures failures { O.failed out.new ≡ O.failed out.old + failed_writes result }
+    ensures failures { (O.device out.new).failures
+        ≡ failures_after result (O.device out.old).failures }
     ensures calls { O.called out.new + 2 ^ 41 ≤ O.called out.old + 2 ^ 60 }
     ensures sized { OnOk result
         (length coverage.new.met.items ≡ length documents.now.notes.lists) }
@@ -155,9 +159,10 @@ fn send_needed<O: Output>(
     requires called { O.called out.old + 2 ^ 40 ≤ 2 ^ 62 + 2 ^ 60 }
     requires sized { length coverage.now.met.items ≡ length notes.now.lists }
     ensures written { (strides : List Stride) → HasSeen notes.now strides coverage.now
-        → IsWritten (O.written out.old) (O.written out.new) result
+        → IsWritten (O.device out.old).written (O.device out.new).written result
         (coverage_lines notes.now strides verdict.now) }
-    ensures failures { O.failed out.new ≡ O.failed out.old + failed_writes result }
+    ensures failures { (O.device out.new).failures
+        ≡ failures_after result (O.device out.old).failures }
     ensures calls { O.called out.new ≤ O.called out.old + 2 ^ 40 }
 {
     if comes_at_once(verdict) {
@@ -177,8 +182,7 @@ fn tell_end<O: Output>(
     requires called { O.called out.old + 2 ^ 40 ≤ 2 ^ 62 + 2 ^ 60 }
     requires sized { length coverage.now.met.items ≡ length notes.now.lists }
     ensures { (strides : List Stride) → HasSeen notes.now strides coverage.now
-        → GetsResult (device (O.written out.old) (O.failed out.old))
-        (device (O.written out.new) (O.failed out.new))
+        → GetsResult (O.device out.old) (O.device out.new)
         (coverage_lines notes.now strides verdict.now ++ verdict_text limit verdict.now)
         (status_of verdict.now) result }
 {
@@ -195,8 +199,7 @@ pub fn tell_trace<O: Output>(out: &mut O, documents: &Documents, trace: BegunTra
     requires fresh { HasSeen documents.now.notes [] trace.coverage }
     ensures { (given : Given) → IsTraceBegun documents.now given trace
         → (reply : Reply) × SaysTrace documents.now given reply
-        × ((err : Device) → Tells reply (device (O.written out.old) (O.failed out.old))
-        (device (O.written out.new) (O.failed out.new)) err err result) }
+        × ((err : Device) → Tells reply (O.device out.old) (O.device out.new) err err result) }
 {
     let BegunTrace {
         begun,

@@ -2,7 +2,8 @@
 
 ghost use Rattle.std.specs.Prelude.{◌≡◌, ◌+◌, ◌^◌, ◌≤◌, IfOk, flat_map, length};
 ghost use Rattle.drum_times.specs.Entries.{entry_in};
-ghost use Rattle.drum_lines.specs.Sent.{IsSent, IsWritten, failed_writes};
+ghost use Rattle.drum_devices.specs.Device.{failures_after};
+ghost use Rattle.drum_lines.specs.Sent.{IsSent, IsWritten};
 ghost use Rattle.drum_bracket.specs.RoundsWaitsOf.{listed, row_text};
 
 use super::WaitsInRounds;
@@ -22,9 +23,10 @@ fn send_rows<O: Output>(
 ) -> Result<usize, WriteFault>
     requires called { O.called writer.old ≤ 2 ^ 62 }
     requires few { length rows.now ≤ 2 ^ 32 }
-    ensures sent { IsSent (O.written writer.old) (O.written writer.new) 0 result
+    ensures sent { IsSent (O.device writer.old).written (O.device writer.new).written 0 result
         (flat_map (row_text (entry_in times.now)) rows.now) }
-    ensures failures { O.failed writer.new ≡ O.failed writer.old + failed_writes result }
+    ensures failures { (O.device writer.new).failures
+        ≡ failures_after result (O.device writer.old).failures }
     ensures calls { O.called writer.new ≤ O.called writer.old + 2 ^ 42 }
     ensures few { IfOk result (λ total. total ≤ 2 ^ 42) }
 {
@@ -50,9 +52,10 @@ pub fn list_rounds_waits<O: Output>(
     writer: &mut O,
 ) -> Result<(), WriteFault>
     requires { O.called writer.old ≤ 2 ^ 62 }
-    ensures written { IsWritten (O.written writer.old) (O.written writer.new) result
+    ensures written { IsWritten (O.device writer.old).written (O.device writer.new).written result
         (listed (entry_in times.now) waits.now bracket.now) }
-    ensures failures { O.failed writer.new ≡ O.failed writer.old + failed_writes result }
+    ensures failures { (O.device writer.new).failures
+        ≡ failures_after result (O.device writer.old).failures }
 {
     let sent = send_rows(writer, waits.rows(), times)?;
     let sent = send_total(writer, sent, bracket.walk.total(), &waits.waited)?;

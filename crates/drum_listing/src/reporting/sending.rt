@@ -3,7 +3,8 @@
 ghost use Rattle.std.specs.Prelude.{◌≡◌, ◌+◌, ◌*◌, ◌^◌, ◌<◌, ◌≤◌, List, IfOk, length, flat_map};
 ghost use Rattle.drum_deck.specs.InDeck.{cards_in};
 ghost use Rattle.drum_walks.specs.Visited.{Visited};
-ghost use Rattle.drum_lines.specs.Sent.{IsSent, failed_writes};
+ghost use Rattle.drum_devices.specs.Device.{failures_after};
+ghost use Rattle.drum_lines.specs.Sent.{IsSent};
 ghost use Rattle.drum_listing.specs.Report.{card_line, mark_line};
 ghost use Rattle.drum_listing.specs.TalliesOf.{AreByLine, ArePasses, told_of_card, told_of_mark};
 ghost use Rattle.drum_listing.specs.TalliesOf.{told_of_others};
@@ -26,9 +27,10 @@ fn send_card<O: Output>(
     requires called { O.called writer.old ≤ 2 ^ 62 + 2 ^ 40 }
     requires few { sent ≤ 2 ^ 40 }
     requires digits { line < 10 ^ 4 }
-    ensures sent { IsSent (O.written writer.old) (O.written writer.new) sent result
+    ensures sent { IsSent (O.device writer.old).written (O.device writer.new).written sent result
         (told_of_card line tally.now) }
-    ensures failures { O.failed writer.new ≡ O.failed writer.old + failed_writes result }
+    ensures failures { (O.device writer.new).failures
+        ≡ failures_after result (O.device writer.old).failures }
     ensures calls { O.called writer.new ≤ O.called writer.old + 120 }
     ensures short { length (told_of_card line tally.now) ≤ 120 }
 {
@@ -55,9 +57,10 @@ pub fn send_other<O: Output>(
 ) -> Result<usize, WriteFault>
     requires called { O.called writer.old ≤ 2 ^ 62 + 2 ^ 40 }
     requires few { sent ≤ 2 ^ 40 }
-    ensures sent { IsSent (O.written writer.old) (O.written writer.new) sent result
+    ensures sent { IsSent (O.device writer.old).written (O.device writer.new).written sent result
         (told_of_others tally.now) }
-    ensures failures { O.failed writer.new ≡ O.failed writer.old + failed_writes result }
+    ensures failures { (O.device writer.new).failures
+        ≡ failures_after result (O.device writer.old).failures }
     ensures calls { O.called writer.new ≤ O.called writer.old + 120 }
     ensures short { length (told_of_others tally.now) ≤ 120 }
 {
@@ -82,9 +85,10 @@ fn send_mark<O: Output>(
 ) -> Result<usize, WriteFault>
     requires called { O.called writer.old ≤ 2 ^ 62 + 2 ^ 40 }
     requires few { sent ≤ 2 ^ 40 }
-    ensures sent { IsSent (O.written writer.old) (O.written writer.new) sent result
+    ensures sent { IsSent (O.device writer.old).written (O.device writer.new).written sent result
         (told_of_mark mark.now passed) }
-    ensures failures { O.failed writer.new ≡ O.failed writer.old + failed_writes result }
+    ensures failures { (O.device writer.new).failures
+        ≡ failures_after result (O.device writer.old).failures }
     ensures calls { O.called writer.new ≤ O.called writer.old + 120 }
     ensures short { length (told_of_mark mark.now passed) ≤ 120 }
 {
@@ -117,9 +121,10 @@ pub fn send_cards<O: Output>(
 ) -> Result<usize, WriteFault>
     requires { O.called writer.old ≤ 2 ^ 62 }
     ensures sent { (walk : List Visited) → AreByLine deck.now walk tallies.now
-        → IsSent (O.written writer.old) (O.written writer.new) 0 result
+        → IsSent (O.device writer.old).written (O.device writer.new).written 0 result
         (flat_map (card_line deck.now walk) (cards_in deck.now)) }
-    ensures failures { O.failed writer.new ≡ O.failed writer.old + failed_writes result }
+    ensures failures { (O.device writer.new).failures
+        ≡ failures_after result (O.device writer.old).failures }
     ensures calls { O.called writer.new ≤ O.called writer.old + 480000 }
     ensures few { IfOk result (λ total. total ≤ 480000) }
 {
@@ -141,9 +146,10 @@ pub fn send_marks<O: Output>(
     requires few { sent ≤ 2 ^ 30 }
     requires marks { length marks.now ≤ 64 }
     ensures sent { (walk : List Visited) → ArePasses marks.now walk passed.now
-        → IsSent (O.written writer.old) (O.written writer.new) sent result
+        → IsSent (O.device writer.old).written (O.device writer.new).written sent result
         (flat_map (mark_line walk) marks.now) }
-    ensures failures { O.failed writer.new ≡ O.failed writer.old + failed_writes result }
+    ensures failures { (O.device writer.new).failures
+        ≡ failures_after result (O.device writer.old).failures }
     ensures calls { O.called writer.new ≤ O.called writer.old + 7680 }
     ensures few { IfOk result (λ total. total ≤ sent + 7680) }
 {

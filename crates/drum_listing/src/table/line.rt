@@ -3,7 +3,8 @@
 ghost use Rattle.std.specs.Prelude.{◌≡◌, ◌+◌, ◌^◌, ◌≤◌, ◌<◌, ◌++◌, IfOk, codes, decimal, flat_map};
 ghost use Rattle.std.specs.Prelude.{length};
 ghost use Rattle.drum_core.specs.Numeral.{digits_of};
-ghost use Rattle.drum_lines.specs.Sent.{IsSent, failed_writes};
+ghost use Rattle.drum_devices.specs.Device.{failures_after};
+ghost use Rattle.drum_lines.specs.Sent.{IsSent};
 ghost use Rattle.drum_machine.specs.CountsIn.{counts_in};
 ghost use Rattle.drum_bound.specs.RowOf.{row_in};
 ghost use Rattle.drum_listing.specs.TableText.{count_text, row_line};
@@ -38,10 +39,11 @@ impl<'a> RowLine<'a> {
 fn send_place<O: Output>(writer: &mut O, sent: usize, row: &Worst) -> Result<usize, WriteFault>
     requires called { O.called writer.old ≤ 2 ^ 62 + 2 ^ 60 }
     requires few { sent ≤ 2 ^ 60 }
-    ensures sent { IsSent (O.written writer.old) (O.written writer.new) sent result
+    ensures sent { IsSent (O.device writer.old).written (O.device writer.new).written sent result
         (digits_of 4 row.now.place.number ++ codes " angle " ++ decimal row.now.angle
         ++ codes " counts") }
-    ensures failures { O.failed writer.new ≡ O.failed writer.old + failed_writes result }
+    ensures failures { (O.device writer.new).failures
+        ≡ failures_after result (O.device writer.old).failures }
     ensures calls { O.called writer.new ≤ O.called writer.old + 80 }
     ensures few { IfOk result (λ total. total ≤ sent + 80) }
 {
@@ -60,9 +62,10 @@ fn send_place<O: Output>(writer: &mut O, sent: usize, row: &Worst) -> Result<usi
 fn send_count<O: Output>(writer: &mut O, sent: usize, count: u16) -> Result<usize, WriteFault>
     requires called { O.called writer.old ≤ 2 ^ 62 + 2 ^ 61 }
     requires few { sent ≤ 2 ^ 61 }
-    ensures sent { IsSent (O.written writer.old) (O.written writer.new) sent result
+    ensures sent { IsSent (O.device writer.old).written (O.device writer.new).written sent result
         (count_text count) }
-    ensures failures { O.failed writer.new ≡ O.failed writer.old + failed_writes result }
+    ensures failures { (O.device writer.new).failures
+        ≡ failures_after result (O.device writer.old).failures }
     ensures calls { O.called writer.new ≤ O.called writer.old + 10 }
     ensures few { IfOk result (λ total. total ≤ sent + 10) }
 {
@@ -75,9 +78,10 @@ fn send_counts<O: Output>(writer: &mut O, begun: usize, counts: &[u16]) -> Resul
     requires called { O.called writer.old ≤ 2 ^ 62 + 2 ^ 60 + 1000 }
     requires few { begun ≤ 2 ^ 60 + 1000 }
     requires short { length counts.now ≤ 64 }
-    ensures sent { IsSent (O.written writer.old) (O.written writer.new) begun result
+    ensures sent { IsSent (O.device writer.old).written (O.device writer.new).written begun result
         (flat_map count_text counts.now) }
-    ensures failures { O.failed writer.new ≡ O.failed writer.old + failed_writes result }
+    ensures failures { (O.device writer.new).failures
+        ≡ failures_after result (O.device writer.old).failures }
     ensures calls { O.called writer.new ≤ O.called writer.old + 640 }
     ensures few { IfOk result (λ total. total ≤ begun + 640) }
 {
@@ -92,9 +96,10 @@ fn send_counts<O: Output>(writer: &mut O, begun: usize, counts: &[u16]) -> Resul
 fn send_time<O: Output>(writer: &mut O, sent: usize, time: u64) -> Result<usize, WriteFault>
     requires called { O.called writer.old ≤ 2 ^ 62 + 2 ^ 61 }
     requires few { sent ≤ 2 ^ 61 }
-    ensures sent { IsSent (O.written writer.old) (O.written writer.new) sent result
+    ensures sent { IsSent (O.device writer.old).written (O.device writer.new).written sent result
         (codes " time " ++ decimal time ++ codes "\n") }
-    ensures failures { O.failed writer.new ≡ O.failed writer.old + failed_writes result }
+    ensures failures { (O.device writer.new).failures
+        ≡ failures_after result (O.device writer.old).failures }
     ensures calls { O.called writer.new ≤ O.called writer.old + 80 }
     ensures few { IfOk result (λ total. total ≤ sent + 80) }
 {

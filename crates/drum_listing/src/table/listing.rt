@@ -2,7 +2,8 @@
 
 ghost use Rattle.std.specs.Prelude.{◌≡◌, ◌+◌, ◌^◌, ◌≤◌, IfOk, flat_map, length};
 ghost use Rattle.drum_bound.specs.RowOf.{row_in};
-ghost use Rattle.drum_lines.specs.Sent.{IsSent, IsWritten, failed_writes};
+ghost use Rattle.drum_devices.specs.Device.{failures_after};
+ghost use Rattle.drum_lines.specs.Sent.{IsSent, IsWritten};
 ghost use Rattle.drum_listing.specs.TableOf.{rows_in};
 ghost use Rattle.drum_listing.specs.TableText.{row_line, table_text};
 
@@ -19,9 +20,10 @@ fn send_rows<O: Output>(writer: &mut O, rows: &[Worst], marks: &[Mark]) -> Resul
     requires called { O.called writer.old ≤ 2 ^ 62 }
     requires few { length rows.now ≤ 2 ^ 40 }
     requires marks { length marks.now ≤ 64 }
-    ensures sent { IsSent (O.written writer.old) (O.written writer.new) 0 result
+    ensures sent { IsSent (O.device writer.old).written (O.device writer.new).written 0 result
         (flat_map (λ row. row_line marks.now (row_in row)) rows.now) }
-    ensures failures { O.failed writer.new ≡ O.failed writer.old + failed_writes result }
+    ensures failures { (O.device writer.new).failures
+        ≡ failures_after result (O.device writer.old).failures }
 {
     let mut sent = 0;
     let mut page = Page::new();
@@ -45,9 +47,10 @@ pub fn list_table<O: Output>(
 ) -> Result<(), WriteFault>
     requires called { O.called writer.old ≤ 2 ^ 62 }
     requires marks { length marks.now ≤ 64 }
-    ensures written { IsWritten (O.written writer.old) (O.written writer.new) result
+    ensures written { IsWritten (O.device writer.old).written (O.device writer.new).written result
         (table_text marks.now (rows_in table.now)) }
-    ensures failures { O.failed writer.new ≡ O.failed writer.old + failed_writes result }
+    ensures failures { (O.device writer.new).failures
+        ≡ failures_after result (O.device writer.old).failures }
 {
     send_rows(writer, &table.rows, marks)?;
     Ok(())

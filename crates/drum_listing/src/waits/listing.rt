@@ -3,7 +3,8 @@
 ghost use Rattle.std.specs.Prelude.{◌≡◌, ◌+◌, ◌^◌, ◌≤◌, IfOk, flat_map, length};
 ghost use Rattle.drum_times.specs.Entries.{entry_in};
 ghost use Rattle.drum_bound.specs.AnalysisOf.{angle_of, bound_of, visits_of};
-ghost use Rattle.drum_lines.specs.Sent.{IsSent, IsWritten, failed_writes};
+ghost use Rattle.drum_devices.specs.Device.{failures_after};
+ghost use Rattle.drum_lines.specs.Sent.{IsSent, IsWritten};
 ghost use Rattle.drum_hop_lines.specs.WaitsText.{waits_text};
 ghost use Rattle.drum_listing.specs.WaitsOf.{AreWaits, firsts_of, row_text};
 
@@ -24,9 +25,10 @@ fn send_waits<O: Output>(
 ) -> Result<usize, WriteFault>
     requires called { O.called writer.old ≤ 2 ^ 62 }
     requires few { length rows.now ≤ 4000000 }
-    ensures sent { IsSent (O.written writer.old) (O.written writer.new) 0 result
+    ensures sent { IsSent (O.device writer.old).written (O.device writer.new).written 0 result
         (flat_map (row_text (entry_in times.now) angle) rows.now) }
-    ensures failures { O.failed writer.new ≡ O.failed writer.old + failed_writes result }
+    ensures failures { (O.device writer.new).failures
+        ≡ failures_after result (O.device writer.old).failures }
     ensures calls { O.called writer.new ≤ O.called writer.old + 2000000000 }
     ensures few { IfOk result (λ total. total ≤ 2000000000) }
 {
@@ -55,10 +57,11 @@ pub fn list_waits<O: Output>(
     requires { O.called writer.old ≤ 2 ^ 62 }
     ensures written { AreWaits (entry_in times.now) (angle_of analysis.now)
         (visits_of analysis.now) waits.now
-        → IsWritten (O.written writer.old) (O.written writer.new) result
+        → IsWritten (O.device writer.old).written (O.device writer.new).written result
         (waits_text (entry_in times.now) (angle_of analysis.now) (visits_of analysis.now)
         (firsts_of waits.now) (bound_of analysis.now)) }
-    ensures failures { O.failed writer.new ≡ O.failed writer.old + failed_writes result }
+    ensures failures { (O.device writer.new).failures
+        ≡ failures_after result (O.device writer.old).failures }
 {
     let bound = analysis.bound();
     let sent = send_waits(writer, waits.rows(), times, analysis.angle())?;

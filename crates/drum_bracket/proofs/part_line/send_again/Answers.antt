@@ -5,7 +5,7 @@ use Rattle.drum_bracket.proofs.part_line.send_again.Goals as goal
 
 pub returns-clause-sent : goal.returns-clause-sent
 returns-clause-sent g c =
-    subst (IsSent (g.O.Output.written c.args.writer.now) (g.O.Output.written c.send.new.output) c.args.sent
+    subst (IsSent (g.O.Output.device c.args.writer.now).written (g.O.Output.device c.send.new.output).written c.args.sent
     c.send.result)
     (again_texts c.args.part c.args.begun c.args.ended c.as_bytes.result.now c.as_bytes-2.result.now
     c.as_bytes-3.result.now (c.as_bytes.ensures.value ∙ c.format.ensures.text)

@@ -5,7 +5,7 @@ use Rattle.drum_bracket.proofs.part_line.send_end_rounds.Goals as goal
 
 pub returns-clause-sent : goal.returns-clause-sent
 returns-clause-sent g c =
-    subst (IsSent (g.O.Output.written c.args.writer.now) (g.O.Output.written c.send.new.output) c.args.sent
+    subst (IsSent (g.O.Output.device c.args.writer.now).written (g.O.Output.device c.send.new.output).written c.args.sent
     c.send.result)
     (end_texts c.args.each c.args.ended c.as_bytes.result.now c.as_bytes-2.result.now
     (c.as_bytes.ensures.value ∙ c.format.ensures.text) (c.as_bytes-2.ensures.value ∙ c.format-2.ensures.text))

@@ -13,9 +13,9 @@ pub returns-in_err-send_totals-clause-written : goal.returns-in_err-send_totals-
 returns-in_err-send_totals-clause-written g c =
     let bracket = c.args.bracket.now in
     let notes = c.args.notes.now in
-    let old = g.O.Output.written c.args.writer.now in
-    let first = g.O.Output.written c.send_prices.new.writer in
-    let new = g.O.Output.written c.send_totals.new.writer in
+    let old = (g.O.Output.device c.args.writer.now).written in
+    let first = (g.O.Output.device c.send_prices.new.writer).written in
+    let new = (g.O.Output.device c.send_totals.new.writer).written in
     let fault = c.in_err-send_totals.field-0.0 in
     let p = err_from_is_err_and c.from_residual-in_err-send_totals.result c.from_residual-in_err-send_totals.ensures.1 in
     let marks : IsSent old first 0 (Ok c.in_ok-sent.sent)

@@ -54,43 +54,16 @@ returns-in_err-named-clause-sent g c =
     let last = c.saturating_sub.result in
     let long : count ≡ length (pieces_in teller) = ap (λ (ps : List Piece). length ps) c.pieces-count.ensures in
     let whole = all_told teller old count last long c.saturating_sub.ensures refl refl c.requires.outlined.none in
-    let was = g.O.Output.written c.args.writer.now in
-    let now = g.O.Output.written c.named.new.writer in
+    let was = (g.O.Output.device c.args.writer.now).written in
+    let now = (g.O.Output.device c.named.new.writer).written in
     let fault = c.in_err-named.field-0.0 in
     let after = held_by c.named.new.progress in
     let p = err_from_is_err_and c.from_residual.result c.from_residual.ensures.1 in
     rw (p.1, p.2) (subst (λ (x : List (List ℕ) × PartsSoFar). IsSent was now 0 (Err fault) (joined x.0)) whole
     (all_cut was now fault after _ (held_by old) c.new.ensures.empty c.in_err-named.ensures.lines))
 
-pub send-requires-clause-called : goal.send-requires-clause-called
-send-requires-clause-called g c =
-    let teller : Teller = record {
-      walk = c.args.walk;
-      times = c.args.times;
-      ends = c.deref.result;
-      named = c.deref-2.result;
-    } in
-    let old : Progress = record {
-      page = c.new.result;
-      sent = 0;
-      begun = 0;
-      parts = c.args.outline.parts;
-      time = 0;
-    } in
-    let count = length c.pieces-count.result.now in
-    let last = c.saturating_sub.result in
-    let long : count ≡ length (pieces_in teller) = ap (λ (ps : List Piece). length ps) c.pieces-count.ensures in
-    let cost = cost_few teller old c.named.new.progress count last (g.O.Output.called c.args.writer.now)
-    (g.O.Output.called c.named.new.writer) long c.saturating_sub.ensures refl refl c.requires.outlined.none
-    c.new.ensures.empty refl c.new.ensures.calls c.requires.right c.in_ok-named.ensures.told in
-    let page : length c.bytes.result.now ≡ length (held_by c.named.new.progress) =
-    ap (λ (xs : List ℕ). length xs) c.bytes.ensures in
-    let text : length (c.bytes.result.now ++ []) ≡ length c.bytes.result.now =
-    ap (λ (xs : List ℕ). length xs) (append-nil c.bytes.result.now) in
-    omega (arith, cost.0, page, text, c.requires.called)
-
-pub send-requires-clause-few : goal.send-requires-clause-few
-send-requires-clause-few g c =
+pub send-requires : goal.send-requires
+send-requires g c =
     let teller : Teller = record {
       walk = c.args.walk;
       times = c.args.times;
@@ -135,9 +108,9 @@ returns-clause-sent g c =
     let last = c.saturating_sub.result in
     let long : count ≡ length (pieces_in teller) = ap (λ (ps : List Piece). length ps) c.pieces-count.ensures in
     let whole = all_told teller old count last long c.saturating_sub.ensures refl refl c.requires.outlined.none in
-    let was = g.O.Output.written c.args.writer.now in
-    let mid = g.O.Output.written c.named.new.writer in
-    let now = g.O.Output.written c.send.new.output in
+    let was = (g.O.Output.device c.args.writer.now).written in
+    let mid = (g.O.Output.device c.named.new.writer).written in
+    let now = (g.O.Output.device c.send.new.output).written in
     let new = c.named.new.progress in
     let page : IsSent mid now new.sent c.send.result (held_by new) =
     subst (IsSent mid now new.sent c.send.result) (append-nil c.bytes.result.now ∙ c.bytes.ensures) c.send.ensures.sent in
@@ -197,5 +170,5 @@ returns-clause-few g c =
     ap (λ (xs : List ℕ). length xs) c.bytes.ensures in
     let text : length (c.bytes.result.now ++ []) ≡ length c.bytes.result.now =
     ap (λ (xs : List ℕ). length xs) (append-nil c.bytes.result.now) in
-    sent_few (g.O.Output.written c.named.new.writer) (g.O.Output.written c.send.new.output) c.named.new.progress.sent
+    sent_few (g.O.Output.device c.named.new.writer).written (g.O.Output.device c.send.new.output).written c.named.new.progress.sent
     (2 ^ 50) c.send.result (c.bytes.result.now ++ []) c.send.ensures.sent (omega (arith, cost.1, page, text))

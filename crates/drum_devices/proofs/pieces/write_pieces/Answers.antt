@@ -22,15 +22,9 @@ fits pieces i d within = length-flat_map-take bytes_of pieces i d within
 abbrev past : Bor (List ℕ)
 past = record { ref_ptr = (0, 0); now = [] }
 
-pub write_whole-requires : goal.write_whole-requires
-write_whole-requires g c =
-    let within = fits c.args.pieces.now c.loop-piece.piece-index past c.loop-piece-test.true in
-    omega (arith, within, c.loop-piece.invariant.so_far, c.loop-piece.invariant.calls)
-
 pub overflow_add-sent : goal.overflow_add-sent
 overflow_add-sent g c =
     let within = fits c.args.pieces.now c.loop-piece.piece-index past c.loop-piece-test.true in
-    let calls = c.requires in
     omega (arith, within, c.loop-piece.invariant.so_far)
 
 pub overflow_add-result : goal.overflow_add-result
@@ -47,9 +41,9 @@ returns-in-Err-clause-prefix g c =
     let same : take (c.loop-piece.sent + sent) (joined pieces) ≡ before ++ take sent (get_or pieces i past).now =
     ap (λ (n : ℕ). take (n + sent) (joined pieces)) c.loop-piece.invariant.so_far
     ∙ prefix_of_pieces bytes_of pieces i sent past c.loop-piece-test.true c.in-Err.ensures.some in
-    subst (Appends (g.O.Output.written c.args.output.now) (g.O.Output.written c.write_whole.new.output)) (sym same)
-    (Appends-then (g.O.Output.written c.args.output.now) (g.O.Output.written c.loop-piece.output)
-    (g.O.Output.written c.write_whole.new.output)
+    subst (Appends (g.O.Output.device c.args.output.now).written (g.O.Output.device c.write_whole.new.output).written) (sym same)
+    (Appends-then (g.O.Output.device c.args.output.now).written (g.O.Output.device c.loop-piece.output).written
+    (g.O.Output.device c.write_whole.new.output).written
     before (take sent (get_or pieces i past).now) c.loop-piece.invariant.prefix c.in-Err.ensures.prefix)
 
 pub returns-in-Err-clause-some : goal.returns-in-Err-clause-some
@@ -73,11 +67,11 @@ loop-piece-preserved g c =
     record {
       so_far = omega (arith, ap length more, length-append before piece, c.loop-piece.invariant.so_far);
       prefix =
-          subst (Appends (g.O.Output.written c.args.output.now) (g.O.Output.written c.write_whole.new.output))
+          subst (Appends (g.O.Output.device c.args.output.now).written (g.O.Output.device c.write_whole.new.output).written)
           (sym more)
-          (Appends-then (g.O.Output.written c.args.output.now) (g.O.Output.written c.loop-piece.output)
-          (g.O.Output.written c.write_whole.new.output)
+          (Appends-then (g.O.Output.device c.args.output.now).written (g.O.Output.device c.loop-piece.output).written
+          (g.O.Output.device c.write_whole.new.output).written
           before piece c.loop-piece.invariant.prefix c.in-Ok.ensures.all);
       calls = omega (arith, c.loop-piece.invariant.calls, c.in-Ok.ensures.calls);
-      failed = omega (arith, c.loop-piece.invariant.failed, c.in-Ok.ensures.failures);
+      failed = c.in-Ok.ensures.failures ∙ c.loop-piece.invariant.failed;
     }

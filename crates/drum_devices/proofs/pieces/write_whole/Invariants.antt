@@ -6,9 +6,9 @@ use Rattle.drum_devices.proofs.pieces.write_whole.Given as goal
 abbrev pub invariant-loop-sent : goal.invariant-loop-sent
 invariant-loop-sent g l = record {
   within : l.sent ≤ length l.bytes;
-  prefix : Appends (g.O.Output.written l.fn.output) (g.O.Output.written l.output) (take l.sent l.bytes);
+  prefix : Appends (g.O.Output.device l.fn.output).written (g.O.Output.device l.output).written (take l.sent l.bytes);
   calls : g.O.Output.called l.output ≤ g.O.Output.called l.fn.output + l.sent;
-  failed : g.O.Output.failed l.output ≡ g.O.Output.failed l.fn.output;
+  failed : (g.O.Output.device l.output).failures ≡ (g.O.Output.device l.fn.output).failures;
 }
 
 abbrev pub decreases-loop-sent : goal.decreases-loop-sent

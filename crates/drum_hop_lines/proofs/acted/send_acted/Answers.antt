@@ -8,8 +8,8 @@ use Rattle.drum_hop_lines.proofs.acted.send_acted.Goals as goal
 
 pub returns-in-Some-Store-clause-sent : goal.returns-in-Some-Store-clause-sent
 returns-in-Some-Store-clause-sent g c =
-    let old = g.O.Output.written c.args.writer.now in
-    let new = g.O.Output.written c.send_words.new.writer in
+    let old = (g.O.Output.device c.args.writer.now).written in
+    let new = (g.O.Output.device c.send_words.new.writer).written in
     let drum = c.args.drum.now in
     subst (λ (o : Option Op). IsSent old new c.args.sent c.send_words.result
     (acted_text o c.args.told.now.instruction.d drum)) (ap Some (sym c.in-Some-Store.field-0-is) ∙ sym c.in-Some-Store.is ∙ c.acting.ensures.told)
@@ -18,8 +18,8 @@ returns-in-Some-Store-clause-sent g c =
 
 pub returns-in-Some-Punch-clause-sent : goal.returns-in-Some-Punch-clause-sent
 returns-in-Some-Punch-clause-sent g c =
-    let old = g.O.Output.written c.args.writer.now in
-    let new = g.O.Output.written c.send_words-in-Some-Punch.new.writer in
+    let old = (g.O.Output.device c.args.writer.now).written in
+    let new = (g.O.Output.device c.send_words-in-Some-Punch.new.writer).written in
     let result = c.send_words-in-Some-Punch.result in
     let drum = c.args.drum.now in
     subst (λ (o : Option Op). IsSent old new c.args.sent result

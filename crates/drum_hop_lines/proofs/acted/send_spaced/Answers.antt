@@ -13,26 +13,14 @@ use Rattle.drum_hop_lines.proofs.acted.send_spaced.Goals as goal
 abbrev spaced_one : Word → List ℕ
 spaced_one word = 32 ∷ spelling word
 
-pub send-requires-clause-called : goal.send-requires-clause-called
-send-requires-clause-called g c =
-    omega (
-      arith,
-      c.loop-word.invariant.calls,
-      c.loop-word-test.true,
-      c.requires.called,
-      c.requires.ten,
-      ap length (append-nil c.spelling_of-spelled.result ∙ c.spelling_of-spelled.ensures),
-      length-spelling c.word-item.result,
-    )
-
 pub returns-in_err-total-clause-sent : goal.returns-in_err-total-clause-sent
 returns-in_err-total-clause-sent g c =
     let words = c.args.words.now in
     let index = c.loop-word.word-index in
     let word = c.word-item.result in
-    let old = g.O.Output.written c.args.writer.now in
-    let between = g.O.Output.written c.loop-word.writer in
-    let new = g.O.Output.written c.send.new.output in
+    let old = (g.O.Output.device c.args.writer.now).written in
+    let between = (g.O.Output.device c.loop-word.writer).written in
+    let new = (g.O.Output.device c.send.new.output).written in
     let fault = c.in_err-total.field-0.0 in
     let p = err_from_is_err_and c.from_residual.result c.from_residual.ensures.1 in
     let here : IsSent between new c.loop-word.total (Err fault) (spaced_one (get_or words index word)) =
@@ -47,9 +35,9 @@ loop-word-preserved g c =
     let words = c.args.words.now in
     let index = c.loop-word.word-index in
     let word = c.word-item.result in
-    let old = g.O.Output.written c.args.writer.now in
-    let between = g.O.Output.written c.loop-word.writer in
-    let new = g.O.Output.written c.send.new.output in
+    let old = (g.O.Output.device c.args.writer.now).written in
+    let between = (g.O.Output.device c.loop-word.writer).written in
+    let new = (g.O.Output.device c.send.new.output).written in
     let spelled = append-nil c.spelling_of-spelled.result ∙ c.spelling_of-spelled.ensures in
     let here : IsSent between new c.loop-word.total (Ok c.in_ok-total.total) (spaced_one (get_or words index word)) =
     subst (λ (xs : List ℕ). IsSent between new c.loop-word.total (Ok c.in_ok-total.total) (32 ∷ xs))

@@ -15,9 +15,9 @@ grouped name digits digits' behind same =
 
 pub returns-clause-sent : goal.returns-clause-sent
 returns-clause-sent g c =
-    let old = g.O.Output.written c.args.writer.now in
-    let between = g.O.Output.written c.send.new.output in
-    let new = g.O.Output.written c.send_spaced.new.writer in
+    let old = (g.O.Output.device c.args.writer.now).written in
+    let between = (g.O.Output.device c.send.new.output).written in
+    let new = (g.O.Output.device c.send_spaced.new.writer).written in
     let words = spaced (slice_range c.args.drum.now c.args.at (c.args.at + c.args.count)) in
     let digits = c.four_digits-digits.result in
     let there : spaced (slice_range c.args.drum.now c.from-first.result (c.from-first.result + c.from.result)) ≡ words =

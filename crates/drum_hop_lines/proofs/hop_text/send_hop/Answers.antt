@@ -7,7 +7,7 @@ use Rattle.drum_hop_lines.proofs.hop_text.send_hop.Goals as goal
 
 pub returns-clause-sent : goal.returns-clause-sent
 returns-clause-sent g c =
-    subst (IsSent (g.O.Output.written c.args.writer.now) (g.O.Output.written c.send.new.output) c.args.sent
+    subst (IsSent (g.O.Output.device c.args.writer.now).written (g.O.Output.device c.send.new.output).written c.args.sent
     c.send.result)
     (hop_told (seen_timed c.args.told.now) (g.I.Integer.text c.args.number) c.four_digits-place.result c.two_digits-op.result c.four_digits-d.result
     c.four_digits-i.result

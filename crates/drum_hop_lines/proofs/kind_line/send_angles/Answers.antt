@@ -5,7 +5,7 @@ use Rattle.drum_hop_lines.proofs.kind_line.send_angles.Goals as goal
 
 pub returns-clause-sent : goal.returns-clause-sent
 returns-clause-sent g c =
-    subst (IsSent (g.O.Output.written c.args.writer.now) (g.O.Output.written c.send.new.output) c.args.sent
+    subst (IsSent (g.O.Output.device c.args.writer.now).written (g.O.Output.device c.send.new.output).written c.args.sent
     c.send.result)
     (angles_told c.args.operand c.args.next c.name_with.result.now c.digits_with.result.now
     c.name_with-2.result.now c.digits_with-2.result.now c.name_with.ensures.name c.digits_with.ensures.digits

@@ -5,6 +5,6 @@ use Rattle.drum_hop_lines.proofs.moments_text.send_times.Goals as goal
 
 pub returns-clause-sent : goal.returns-clause-sent
 returns-clause-sent g c =
-    subst (IsSent (g.O.Output.written c.args.writer.now) (g.O.Output.written c.send_told.new.writer) c.args.sent
+    subst (IsSent (g.O.Output.device c.args.writer.now).written (g.O.Output.device c.send_told.new.writer).written c.args.sent
     c.send_told.result)
     (times_told c.args.moments.now c.args.ended c.args.last.now) c.send_told.ensures.sent

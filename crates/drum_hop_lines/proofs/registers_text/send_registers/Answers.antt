@@ -17,7 +17,7 @@ same a twenty = to_z-of_z w128 a (fits_signed_from_abs w128 a (omega (arith, twe
 pub returns-clause-sent : goal.returns-clause-sent
 returns-clause-sent g c cards =
     let held = held_by c.args.machine.now cards in
-    subst (IsSent (g.O.Output.written c.args.writer.now) (g.O.Output.written c.send.new.output) c.args.sent
+    subst (IsSent (g.O.Output.device c.args.writer.now).written (g.O.Output.device c.send.new.output).written c.args.sent
     c.send.result)
     (registers_told held c.spelled-accumulator.result c.remainder_name.result.now c.remainder_sign.result.now
     c.spelling_of-distributor.result c.latch_text.result.now

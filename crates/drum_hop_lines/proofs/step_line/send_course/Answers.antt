@@ -8,14 +8,14 @@ pub returns-in_err-sent-clause-sent : goal.returns-in_err-sent-clause-sent
 returns-in_err-sent-clause-sent g c =
     let told = c.args.told.now in
     let p = err_from_is_err_and c.from_residual.result c.from_residual.ensures.1 in
-    rw (p.1, p.2) (IsSent-cut (g.O.Output.written c.args.writer.now) (g.O.Output.written c.send_fetch.new.writer)
+    rw (p.1, p.2) (IsSent-cut (g.O.Output.device c.args.writer.now).written (g.O.Output.device c.send_fetch.new.writer).written
     c.args.sent c.in_err-sent.field-0.0 (fetch_text c.args.number told.place.number c.args.word told.begun)
     (times_text c.args.moments.now told.ended []) c.in_err-sent.ensures.sent)
 
 pub returns-clause-sent : goal.returns-clause-sent
 returns-clause-sent g c =
     let told = c.args.told.now in
-    IsSent-then (g.O.Output.written c.args.writer.now) (g.O.Output.written c.send_fetch.new.writer)
-    (g.O.Output.written c.send_times.new.writer) c.args.sent c.in_ok-sent.sent c.send_times.result
+    IsSent-then (g.O.Output.device c.args.writer.now).written (g.O.Output.device c.send_fetch.new.writer).written
+    (g.O.Output.device c.send_times.new.writer).written c.args.sent c.in_ok-sent.sent c.send_times.result
     (fetch_text c.args.number told.place.number c.args.word told.begun) (times_text c.args.moments.now told.ended [])
     c.in_ok-sent.ensures.sent c.send_times.ensures.sent

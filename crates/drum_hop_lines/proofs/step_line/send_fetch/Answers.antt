@@ -6,7 +6,7 @@ use Rattle.drum_hop_lines.proofs.step_line.send_fetch.Goals as goal
 
 pub returns-clause-sent : goal.returns-clause-sent
 returns-clause-sent g c =
-    subst (IsSent (g.O.Output.written c.args.writer.now) (g.O.Output.written c.send.new.output) c.args.sent
+    subst (IsSent (g.O.Output.device c.args.writer.now).written (g.O.Output.device c.send.new.output).written c.args.sent
     c.send.result)
     (fetch_told c.args.number c.args.origin.number c.args.word c.args.begun c.as_bytes.result.now
     c.four_digits-at.result c.spelling_of-spelled.result c.as_bytes-2.result.now

@@ -6,7 +6,7 @@ use Rattle.drum_hop_lines.proofs.total_line.send_total.Goals as goal
 
 pub returns-clause-sent : goal.returns-clause-sent
 returns-clause-sent g c =
-    subst (IsSent (g.O.Output.written c.args.writer.now) (g.O.Output.written c.send.new.output) c.args.sent
+    subst (IsSent (g.O.Output.device c.args.writer.now).written (g.O.Output.device c.send.new.output).written c.args.sent
     c.send.result)
     (total_told c.args.time c.args.waited.now c.as_bytes.result.now c.as_bytes-2.result.now c.as_bytes-3.result.now
     c.as_bytes-4.result.now (c.as_bytes.ensures.value ∙ c.format.ensures.text ∙ ap decimal c.work.ensures)

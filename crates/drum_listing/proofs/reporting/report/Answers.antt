@@ -39,8 +39,8 @@ pub send_marks-requires-clause-few : goal.send_marks-requires-clause-few
 send_marks-requires-clause-few g c =
     omega (arith, c.in_ok-sent.ensures.few, c.in_ok-sent-2.ensures.sent.0, c.in_ok-sent-2.ensures.short)
 
-pub send_bound-requires-clause-few : goal.send_bound-requires-clause-few
-send_bound-requires-clause-few g c =
+pub send_bound-requires : goal.send_bound-requires
+send_bound-requires g c =
     omega (
       arith,
       c.in_ok-sent.ensures.few,
@@ -73,9 +73,9 @@ returns-in_err-sent-2-clause-written g c =
     let told =
     tallied analysis deck c.marks-marks.result.now c.walk.result.now c.of-tallies.result c.walk.ensures.told
     c.of-tallies.ensures in
-    let old = g.O.Output.written c.args.writer.now in
-    let first = g.O.Output.written c.send_cards.new.writer in
-    let new = g.O.Output.written c.send_other.new.writer in
+    let old = (g.O.Output.device c.args.writer.now).written in
+    let first = (g.O.Output.device c.send_cards.new.writer).written in
+    let new = (g.O.Output.device c.send_other.new.writer).written in
     let fault = c.in_err-sent-2.field-0.0 in
     let p = err_from_is_err_and c.from_residual-in_err-sent-2.result c.from_residual-in_err-sent-2.ensures.1 in
     let other : IsSent first new c.in_ok-sent.sent (Err fault) (other_line deck walk) =
@@ -94,10 +94,10 @@ returns-in_err-sent-3-clause-written g c =
     let told =
     tallied analysis deck c.marks-marks.result.now c.walk.result.now c.of-tallies.result c.walk.ensures.told
     c.of-tallies.ensures in
-    let old = g.O.Output.written c.args.writer.now in
-    let first = g.O.Output.written c.send_cards.new.writer in
-    let second = g.O.Output.written c.send_other.new.writer in
-    let new = g.O.Output.written c.send_marks.new.writer in
+    let old = (g.O.Output.device c.args.writer.now).written in
+    let first = (g.O.Output.device c.send_cards.new.writer).written in
+    let second = (g.O.Output.device c.send_other.new.writer).written in
+    let new = (g.O.Output.device c.send_marks.new.writer).written in
     let fault = c.in_err-sent-3.field-0.0 in
     let p = err_from_is_err_and c.from_residual-in_err-sent-3.result c.from_residual-in_err-sent-3.ensures.1 in
     let other : IsSent first second c.in_ok-sent.sent (Ok c.in_ok-sent-2.sent) (other_line deck walk) =
@@ -120,11 +120,11 @@ returns-in_err-send_bound-clause-written g c =
     let told =
     tallied analysis deck c.marks-marks.result.now c.walk.result.now c.of-tallies.result c.walk.ensures.told
     c.of-tallies.ensures in
-    let old = g.O.Output.written c.args.writer.now in
-    let first = g.O.Output.written c.send_cards.new.writer in
-    let second = g.O.Output.written c.send_other.new.writer in
-    let third = g.O.Output.written c.send_marks.new.writer in
-    let new = g.O.Output.written c.send_bound.new.output in
+    let old = (g.O.Output.device c.args.writer.now).written in
+    let first = (g.O.Output.device c.send_cards.new.writer).written in
+    let second = (g.O.Output.device c.send_other.new.writer).written in
+    let third = (g.O.Output.device c.send_marks.new.writer).written in
+    let new = (g.O.Output.device c.send_bound.new.output).written in
     let fault = c.in_err-send_bound.field-0.0 in
     let p = err_from_is_err_and c.from_residual-in_err-send_bound.result c.from_residual-in_err-send_bound.ensures.1 in
     let other : IsSent first second c.in_ok-sent.sent (Ok c.in_ok-sent-2.sent) (other_line deck walk) =
@@ -155,11 +155,11 @@ returns-clause-written g c =
     let told =
     tallied analysis deck c.marks-marks.result.now c.walk.result.now c.of-tallies.result c.walk.ensures.told
     c.of-tallies.ensures in
-    let old = g.O.Output.written c.args.writer.now in
-    let first = g.O.Output.written c.send_cards.new.writer in
-    let second = g.O.Output.written c.send_other.new.writer in
-    let third = g.O.Output.written c.send_marks.new.writer in
-    let new = g.O.Output.written c.send_bound.new.output in
+    let old = (g.O.Output.device c.args.writer.now).written in
+    let first = (g.O.Output.device c.send_cards.new.writer).written in
+    let second = (g.O.Output.device c.send_other.new.writer).written in
+    let third = (g.O.Output.device c.send_marks.new.writer).written in
+    let new = (g.O.Output.device c.send_bound.new.output).written in
     let total = c.in_ok-send_bound.field-0 in
     let other : IsSent first second c.in_ok-sent.sent (Ok c.in_ok-sent-2.sent) (other_line deck walk) =
     subst (λ (tally : Tally). IsSent first second c.in_ok-sent.sent (Ok c.in_ok-sent-2.sent) (told_of_others tally))

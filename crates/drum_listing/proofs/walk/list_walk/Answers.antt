@@ -29,8 +29,8 @@ pub returns-in_err-sent-clause-written : goal.returns-in_err-sent-clause-written
 returns-in_err-sent-clause-written g c =
     let times = entry_in c.args.times.now in
     let analysis = c.args.analysis.now in
-    let old = g.O.Output.written c.args.writer.now in
-    let new = g.O.Output.written c.send_visits.new.writer in
+    let old = (g.O.Output.device c.args.writer.now).written in
+    let new = (g.O.Output.device c.send_visits.new.writer).written in
     let fault = c.in_err-sent.field-0.0 in
     let p = err_from_is_err_and c.from_residual.result c.from_residual.ensures.1 in
     let lines = flat_map (visit_line times (angle_of analysis)) (visits_of analysis) in
@@ -46,9 +46,9 @@ pub returns-in_err-send_bound-clause-written : goal.returns-in_err-send_bound-cl
 returns-in_err-send_bound-clause-written g c =
     let times = entry_in c.args.times.now in
     let analysis = c.args.analysis.now in
-    let old = g.O.Output.written c.args.writer.now in
-    let between = g.O.Output.written c.send_visits.new.writer in
-    let new = g.O.Output.written c.send_bound.new.output in
+    let old = (g.O.Output.device c.args.writer.now).written in
+    let between = (g.O.Output.device c.send_visits.new.writer).written in
+    let new = (g.O.Output.device c.send_bound.new.output).written in
     let sent = c.in_ok-sent.sent in
     let fault = c.in_err-send_bound.field-0.0 in
     let p = err_from_is_err_and c.from_residual-in_err-send_bound.result c.from_residual-in_err-send_bound.ensures.1 in
@@ -68,9 +68,9 @@ pub returns-clause-written : goal.returns-clause-written
 returns-clause-written g c =
     let times = entry_in c.args.times.now in
     let analysis = c.args.analysis.now in
-    let old = g.O.Output.written c.args.writer.now in
-    let between = g.O.Output.written c.send_visits.new.writer in
-    let new = g.O.Output.written c.send_bound.new.output in
+    let old = (g.O.Output.device c.args.writer.now).written in
+    let between = (g.O.Output.device c.send_visits.new.writer).written in
+    let new = (g.O.Output.device c.send_bound.new.output).written in
     let sent = c.in_ok-sent.sent in
     let total = c.in_ok-send_bound.field-0 in
     let lines = flat_map (visit_line times (angle_of analysis)) (visits_of analysis) in

@@ -21,8 +21,8 @@ returns-in_err-sent-clause-sent g c =
     let i = c.loop-visit.visit-index in
     let visit = c.visit-item.result in
     let so_far = c.loop-visit.invariant in
-    let old = g.O.Output.written c.args.writer.now in
-    let new = g.O.Output.written c.pass_line.new.writer in
+    let old = (g.O.Output.device c.args.writer.now).written in
+    let new = (g.O.Output.device c.pass_line.new.writer).written in
     let fault = c.in_err-sent.field-0.0 in
     let p = err_from_is_err_and c.from_residual.result c.from_residual.ensures.1 in
     let here : IsSent old new 0 (Err fault) (so_far.gone ++ (text_of c.loop-visit.page ++ line visit)) =
@@ -37,7 +37,7 @@ pub loop-visit-preserved : goal.loop-visit-preserved
 loop-visit-preserved g c =
     let line : Visit → List ℕ = λ visit. visit_line (entry_in c.args.times.now) c.args.angle (seen_visit visit) in
     let so_far = c.loop-visit.invariant in
-    let now = c.in_ok-sent.ensures.sent (g.O.Output.written c.args.writer.now) so_far.gone so_far.so_far in
+    let now = c.in_ok-sent.ensures.sent (g.O.Output.device c.args.writer.now).written so_far.gone so_far.so_far in
     record {
       gone = now.0;
       so_far = now.1;
@@ -54,9 +54,9 @@ pub returns-clause-sent : goal.returns-clause-sent
 returns-clause-sent g c =
     let line : Visit → List ℕ = λ visit. visit_line (entry_in c.args.times.now) c.args.angle (seen_visit visit) in
     let so_far = c.loop-visit.invariant in
-    let old = g.O.Output.written c.args.writer.now in
-    let between = g.O.Output.written c.loop-visit.writer in
-    let new = g.O.Output.written c.send.new.output in
+    let old = (g.O.Output.device c.args.writer.now).written in
+    let between = (g.O.Output.device c.loop-visit.writer).written in
+    let new = (g.O.Output.device c.send.new.output).written in
     let held = text_of c.loop-visit.page in
     let all : flat_map line (take c.loop-visit.visit-index c.args.walk.now) ≡ flat_map line c.args.walk.now =
     ap (flat_map line) (take_all c.args.walk.now c.loop-visit.visit-index (omega (arith, c.loop-visit-test.false))) in

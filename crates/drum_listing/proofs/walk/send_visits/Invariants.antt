@@ -11,12 +11,12 @@ use Rattle.drum_listing.proofs.walk.send_visits.Given as goal
 abbrev pub invariant-loop-visit : goal.invariant-loop-visit
 invariant-loop-visit g l = record {
   gone : List ℕ;
-  so_far : IsSent (g.O.Output.written l.fn.writer) (g.O.Output.written l.writer) 0 (Ok l.sent) gone;
+  so_far : IsSent (g.O.Output.device l.fn.writer).written (g.O.Output.device l.writer).written 0 (Ok l.sent) gone;
   lines : gone ++ text_of l.page
       ≡ flat_map (λ (visit : Visit). visit_line (entry_in l.times) l.angle (seen_visit visit)) (take l.visit-index l.walk);
   few : l.sent + length (text_of l.page) ≤ 1000 * l.visit-index;
   calls : g.O.Output.called l.writer + length (text_of l.page)
       ≤ g.O.Output.called l.fn.writer + 1000 * l.visit-index;
   gathered : l.page.calls ≤ 1000 * l.visit-index;
-  failures : g.O.Output.failed l.writer ≡ g.O.Output.failed l.fn.writer;
+  failures : (g.O.Output.device l.writer).failures ≡ (g.O.Output.device l.fn.writer).failures;
 }

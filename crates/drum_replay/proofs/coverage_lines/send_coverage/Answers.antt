@@ -14,8 +14,8 @@ use Rattle.drum_replay.proofs.coverage_lines.send_coverage.Goals as goal
 pub returns-in_err-sent-clause-written : goal.returns-in_err-sent-clause-written
 returns-in_err-sent-clause-written g c strides seen =
     let notes = c.args.notes.now in
-    let old = g.O.Output.written c.args.writer.now in
-    let new = g.O.Output.written c.send_marks.new.writer in
+    let old = (g.O.Output.device c.args.writer.now).written in
+    let new = (g.O.Output.device c.send_marks.new.writer).written in
     let fault = c.in_err-sent.field-0.0 in
     let p = err_from_is_err_and c.from_residual.result c.from_residual.ensures.1 in
     let marks : List ℕ = flat_map (mark_line_at (most_passed notes strides)) (enumerate_from 0 notes.marks) in
@@ -37,9 +37,9 @@ send_lists-requires-clause-few g c =
 pub returns-in_err-send_lists-clause-written : goal.returns-in_err-send_lists-clause-written
 returns-in_err-send_lists-clause-written g c strides seen =
     let notes = c.args.notes.now in
-    let old = g.O.Output.written c.args.writer.now in
-    let first = g.O.Output.written c.send_marks.new.writer in
-    let new = g.O.Output.written c.send_lists.new.writer in
+    let old = (g.O.Output.device c.args.writer.now).written in
+    let first = (g.O.Output.device c.send_marks.new.writer).written in
+    let new = (g.O.Output.device c.send_lists.new.writer).written in
     let fault = c.in_err-send_lists.field-0.0 in
     let p = err_from_is_err_and c.from_residual-in_err-send_lists.result c.from_residual-in_err-send_lists.ensures.1 in
     let marks : List ℕ = flat_map (mark_line_at (most_passed notes strides)) (enumerate_from 0 notes.marks) in
@@ -58,9 +58,9 @@ returns-in_err-send_lists-clause-written g c strides seen =
 pub returns-clause-written : goal.returns-clause-written
 returns-clause-written g c strides seen =
     let notes = c.args.notes.now in
-    let old = g.O.Output.written c.args.writer.now in
-    let first = g.O.Output.written c.send_marks.new.writer in
-    let new = g.O.Output.written c.send_lists.new.writer in
+    let old = (g.O.Output.device c.args.writer.now).written in
+    let first = (g.O.Output.device c.send_marks.new.writer).written in
+    let new = (g.O.Output.device c.send_lists.new.writer).written in
     let total = c.in_ok-send_lists.field-0 in
     let marks : List ℕ = flat_map (mark_line_at (most_passed notes strides)) (enumerate_from 0 notes.marks) in
     let lists : List ℕ = flat_map (λ list. list_line list (patterns_met strides list)) notes.lists in

@@ -8,7 +8,7 @@ use Rattle.drum_replay.proofs.coverage_lines.send_list.Goals as goal
 pub returns-clause-sent : goal.returns-clause-sent
 returns-clause-sent g c =
     let Sent : List ℕ → Type 0 =
-    IsSent (g.O.Output.written c.args.writer.now) (g.O.Output.written c.send.new.output) c.args.sent
+    IsSent (g.O.Output.device c.args.writer.now).written (g.O.Output.device c.send.new.output).written c.args.sent
     c.send.result in
     subst Sent
     (list_texts c.four_digits-location.result (digits_of 4 c.args.list.now.location.number)

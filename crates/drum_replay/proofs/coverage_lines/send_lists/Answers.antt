@@ -35,9 +35,9 @@ returns-in_err-sent-clause-sent g c =
     let lists = c.args.lists.now in
     let place = c.loop-place.place in
     let list = c.index-lists-place.result in
-    let old = g.O.Output.written c.args.writer.now in
-    let between = g.O.Output.written c.loop-place.writer in
-    let new = g.O.Output.written c.send_list.new.writer in
+    let old = (g.O.Output.device c.args.writer.now).written in
+    let between = (g.O.Output.device c.loop-place.writer).written in
+    let new = (g.O.Output.device c.send_list.new.writer).written in
     let fault = c.in_err-sent.field-0.0 in
     let p = err_from_is_err_and c.from_residual.result c.from_residual.ensures.1 in
     let here : IsSent between new c.loop-place.sent (Err fault)
@@ -55,9 +55,9 @@ loop-place-preserved g c =
     let lists = c.args.lists.now in
     let place = c.loop-place.place in
     let list = c.index-lists-place.result in
-    let old = g.O.Output.written c.args.writer.now in
-    let between = g.O.Output.written c.loop-place.writer in
-    let new = g.O.Output.written c.send_list.new.writer in
+    let old = (g.O.Output.device c.args.writer.now).written in
+    let between = (g.O.Output.device c.loop-place.writer).written in
+    let new = (g.O.Output.device c.send_list.new.writer).written in
     let here : IsSent between new c.loop-place.sent (Ok c.in_ok-sent.sent)
     (list_line_at coverage (get_or (enumerate_from 0 lists) place (place, list))) =
     subst (IsSent between new c.loop-place.sent (Ok c.in_ok-sent.sent))
@@ -78,6 +78,6 @@ returns-clause-sent g c =
     let all : take c.loop-place.place numbered ≡ numbered =
     take_all c.loop-place.place numbered
     (omega (arith, c.loop-place-test.false, length-enumerate_from 0 c.args.lists.now)) in
-    subst (λ (some : List (ℕ × Listing)). IsSent (g.O.Output.written c.args.writer.now)
-    (g.O.Output.written c.loop-place.writer) c.args.begun (Ok c.loop-place.sent)
+    subst (λ (some : List (ℕ × Listing)). IsSent (g.O.Output.device c.args.writer.now).written
+    (g.O.Output.device c.loop-place.writer).written c.args.begun (Ok c.loop-place.sent)
     (flat_map (list_line_at c.args.coverage.now) some)) all c.loop-place.invariant.so_far

@@ -7,9 +7,9 @@ use Rattle.drum_replay.proofs.coverage_lines.send_lists.Given as goal
 -- the lines so far have gone out
 abbrev pub invariant-loop-place : goal.invariant-loop-place
 invariant-loop-place g l = record {
-  so_far : IsSent (g.O.Output.written l.fn.writer) (g.O.Output.written l.writer) l.begun (Ok l.sent)
+  so_far : IsSent (g.O.Output.device l.fn.writer).written (g.O.Output.device l.writer).written l.begun (Ok l.sent)
       (flat_map (list_line_at l.coverage) (take l.place (enumerate_from 0 l.lists)));
   few : l.sent ≤ l.begun + 120 * l.place;
   calls : g.O.Output.called l.writer ≤ g.O.Output.called l.fn.writer + 120 * l.place;
-  failures : g.O.Output.failed l.writer ≡ g.O.Output.failed l.fn.writer;
+  failures : (g.O.Output.device l.writer).failures ≡ (g.O.Output.device l.fn.writer).failures;
 }

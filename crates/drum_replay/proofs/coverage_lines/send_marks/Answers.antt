@@ -33,9 +33,9 @@ returns-in_err-sent-clause-sent g c =
     let marks = c.args.marks.now in
     let place = c.loop-place.place in
     let mark = c.index-marks-place.result in
-    let old = g.O.Output.written c.args.writer.now in
-    let between = g.O.Output.written c.loop-place.writer in
-    let new = g.O.Output.written c.send_mark.new.writer in
+    let old = (g.O.Output.device c.args.writer.now).written in
+    let between = (g.O.Output.device c.loop-place.writer).written in
+    let new = (g.O.Output.device c.send_mark.new.writer).written in
     let fault = c.in_err-sent.field-0.0 in
     let p = err_from_is_err_and c.from_residual.result c.from_residual.ensures.1 in
     let here : IsSent between new c.loop-place.sent (Err fault)
@@ -53,9 +53,9 @@ loop-place-preserved g c =
     let marks = c.args.marks.now in
     let place = c.loop-place.place in
     let mark = c.index-marks-place.result in
-    let old = g.O.Output.written c.args.writer.now in
-    let between = g.O.Output.written c.loop-place.writer in
-    let new = g.O.Output.written c.send_mark.new.writer in
+    let old = (g.O.Output.device c.args.writer.now).written in
+    let between = (g.O.Output.device c.loop-place.writer).written in
+    let new = (g.O.Output.device c.send_mark.new.writer).written in
     let here : IsSent between new c.loop-place.sent (Ok c.in_ok-sent.sent)
     (mark_line_at passed (get_or (enumerate_from 0 marks) place (place, mark))) =
     subst (IsSent between new c.loop-place.sent (Ok c.in_ok-sent.sent))
@@ -76,6 +76,6 @@ returns-clause-sent g c =
     let all : take c.loop-place.place numbered ≡ numbered =
     take_all c.loop-place.place numbered
     (omega (arith, c.loop-place-test.false, length-enumerate_from 0 c.args.marks.now)) in
-    subst (λ (some : List (ℕ × Mark)). IsSent (g.O.Output.written c.args.writer.now)
-    (g.O.Output.written c.loop-place.writer) 0 (Ok c.loop-place.sent)
+    subst (λ (some : List (ℕ × Mark)). IsSent (g.O.Output.device c.args.writer.now).written
+    (g.O.Output.device c.loop-place.writer).written 0 (Ok c.loop-place.sent)
     (flat_map (mark_line_at (passed_at c.args.coverage.now)) some)) all c.loop-place.invariant.so_far

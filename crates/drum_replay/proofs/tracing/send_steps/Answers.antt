@@ -76,7 +76,7 @@ loop-following-init g c = record {
   so_far = c.requires.follows;
   seen = c.requires.fresh;
   gone = [];
-  sent = (refl, Appends-nil (g.O.Output.written c.args.out.now));
+  sent = (refl, Appends-nil (g.O.Output.device c.args.out.now).written);
   lines = c.new-page.ensures.empty;
   few = omega (arith, ap length c.new-page.ensures.empty);
   calls = omega (arith, ap length c.new-page.ensures.empty);
@@ -94,8 +94,8 @@ returns-in_err-sent-clause-written g c =
     let before = c.loop-following.following in
     let stride = stride_of all.times before in
     let more = strides ++ stride ∷ [] in
-    let old = g.O.Output.written c.args.out.now in
-    let between = g.O.Output.written c.pass_step.new.writer in
+    let old = (g.O.Output.device c.args.out.now).written in
+    let between = (g.O.Output.device c.pass_step.new.writer).written in
     let gone = c.loop-following.invariant.gone in
     let is : IsStepOf all.times c.args.angle c.used-before.result c.advance-step.result.0
     c.advance-step.new.self.machine stride = record {
@@ -143,8 +143,8 @@ returns-in_err-send-clause-written g c =
     let before = c.loop-following.following in
     let stride = stride_of all.times before in
     let more = strides ++ stride ∷ [] in
-    let old = g.O.Output.written c.args.out.now in
-    let between = g.O.Output.written c.pass_step.new.writer in
+    let old = (g.O.Output.device c.args.out.now).written in
+    let between = (g.O.Output.device c.pass_step.new.writer).written in
     let gone = c.loop-following.invariant.gone in
     let is : IsStepOf all.times c.args.angle c.used-before.result c.advance-step.result.0
     c.advance-step.new.self.machine stride = record {
@@ -160,7 +160,7 @@ returns-in_err-send-clause-written g c =
     let lines =
     behind all.times strides stride c.advance-step.new.self.steps gone (text_of c.loop-following.page)
     (omega (arith, c.advance-step.ensures.steps, so_far.counted)) c.loop-following.invariant.lines in
-    let new = g.O.Output.written c.send.new.output in
+    let new = (g.O.Output.device c.send.new.output).written in
     let fault = c.in_err-send.field-0.0 in
     let p = err_from_is_err_and c.from_residual-in_err-send.result c.from_residual-in_err-send.ensures.1 in
     let passed = c.in_ok-sent.ensures.sent stride is old gone c.loop-following.invariant.sent in
@@ -196,8 +196,8 @@ returns-in-Some-clause-written g c =
     let before = c.loop-following.following in
     let stride = stride_of all.times before in
     let more = strides ++ stride ∷ [] in
-    let old = g.O.Output.written c.args.out.now in
-    let between = g.O.Output.written c.pass_step.new.writer in
+    let old = (g.O.Output.device c.args.out.now).written in
+    let between = (g.O.Output.device c.pass_step.new.writer).written in
     let gone = c.loop-following.invariant.gone in
     let is : IsStepOf all.times c.args.angle c.used-before.result c.advance-step.result.0
     c.advance-step.new.self.machine stride = record {
@@ -213,7 +213,7 @@ returns-in-Some-clause-written g c =
     let lines =
     behind all.times strides stride c.advance-step.new.self.steps gone (text_of c.loop-following.page)
     (omega (arith, c.advance-step.ensures.steps, so_far.counted)) c.loop-following.invariant.lines in
-    let new = g.O.Output.written c.send.new.output in
+    let new = (g.O.Output.device c.send.new.output).written in
     let total = c.in_ok-send.field-0 in
     let passed = c.in_ok-sent.ensures.sent stride is old gone c.loop-following.invariant.sent in
     let here : IsSent old new 0 (Ok total) (stride_lines all.times 1 more) =
@@ -240,8 +240,8 @@ loop-following-preserved g c =
     let before = c.loop-following.following in
     let stride = stride_of all.times before in
     let more = strides ++ stride ∷ [] in
-    let old = g.O.Output.written c.args.out.now in
-    let between = g.O.Output.written c.pass_step.new.writer in
+    let old = (g.O.Output.device c.args.out.now).written in
+    let between = (g.O.Output.device c.pass_step.new.writer).written in
     let gone = c.loop-following.invariant.gone in
     let is : IsStepOf all.times c.args.angle c.used-before.result c.advance-step.result.0
     c.advance-step.new.self.machine stride = record {

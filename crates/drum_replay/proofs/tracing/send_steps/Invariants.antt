@@ -17,13 +17,13 @@ invariant-loop-following g l = record {
       strides l.following;
   seen : HasSeen l.notes strides l.coverage;
   gone : List ℕ;
-  sent : IsSent (g.O.Output.written l.fn.out) (g.O.Output.written l.out) 0 (Ok l.sent) gone;
+  sent : IsSent (g.O.Output.device l.fn.out).written (g.O.Output.device l.out).written 0 (Ok l.sent) gone;
   lines : gone ++ text_of l.page ≡ stride_lines (entry_in l.times) 1 strides;
   few : l.sent + length (text_of l.page) ≤ 1000 * l.following.steps;
   calls : g.O.Output.called l.out + length (text_of l.page)
       ≤ g.O.Output.called l.fn.out + 1000 * l.following.steps;
   gathered : l.page.calls ≤ 1000 * l.following.steps;
-  failures : g.O.Output.failed l.out ≡ g.O.Output.failed l.fn.out;
+  failures : (g.O.Output.device l.out).failures ≡ (g.O.Output.device l.fn.out).failures;
 }
 
 -- each step uses time

@@ -9,7 +9,7 @@ pub returns-in-Some-clause-written : goal.returns-in-Some-clause-written
 returns-in-Some-clause-written g c given is = (
   [],
   traced_before (setting_of c.args.documents.now) given c.args.begun is c.in-Some.verdict c.in-Some.is,
-  Appends-nil (g.O.Output.written c.args.out.now),
+  Appends-nil (g.O.Output.device c.args.out.now).written,
   c.requires.fresh,
 )
 

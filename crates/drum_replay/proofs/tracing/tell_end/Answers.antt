@@ -1,7 +1,6 @@
 -- Of tell_end: what is told of the notes goes out first and the verdict behind it; where a write of
 -- the first fails, both have gone out in part.
 use Rattle.std.proofs.Common.{arith}
-use Rattle.drum_lines.specs.Output.{device}
 use Rattle.drum_lines.specs.Status.{status_of}
 use Rattle.drum_lines.specs.VerdictText.{verdict_text}
 use Rattle.drum_replay.specs.Coverage.{coverage_lines}
@@ -11,9 +10,9 @@ use Rattle.drum_replay.proofs.tracing.tell_end.Goals as goal
 pub returns-in-Ok : goal.returns-in-Ok
 returns-in-Ok g c strides seen =
     let verdict = c.args.verdict.now in
-    let old = device (g.O.Output.written c.args.out.now) (g.O.Output.failed c.args.out.now) in
-    let mid = device (g.O.Output.written c.send_needed.new.out) (g.O.Output.failed c.send_needed.new.out) in
-    let new = device (g.O.Output.written c.tell_verdict.new.out) (g.O.Output.failed c.tell_verdict.new.out) in
+    let old = g.O.Output.device c.args.out.now in
+    let mid = g.O.Output.device c.send_needed.new.out in
+    let new = g.O.Output.device c.tell_verdict.new.out in
     gets_behind old mid new (coverage_lines c.args.notes.now strides verdict) (verdict_text c.args.limit verdict)
     (status_of verdict) c.tell_verdict.result
     (c.in-Ok.ensures.written strides seen, omega (arith, c.in-Ok.ensures.failures)) c.tell_verdict.ensures
@@ -21,8 +20,8 @@ returns-in-Ok g c strides seen =
 pub returns-in-Err : goal.returns-in-Err
 returns-in-Err g c strides seen =
     let verdict = c.args.verdict.now in
-    let old = device (g.O.Output.written c.args.out.now) (g.O.Output.failed c.args.out.now) in
-    let new = device (g.O.Output.written c.send_needed.new.out) (g.O.Output.failed c.send_needed.new.out) in
+    let old = g.O.Output.device c.args.out.now in
+    let new = g.O.Output.device c.send_needed.new.out in
     let written = c.in-Err.ensures.written strides seen in
     gets_cut old new c.in-Err.field-0.sent (coverage_lines c.args.notes.now strides verdict)
     (verdict_text c.args.limit verdict) (status_of verdict) written.0 written.1 c.in-Err.ensures.failures

@@ -4,7 +4,7 @@
 use Rattle.std.proofs.Common.{ℕ, List, ◌++◌, append_assoc, arith, inl, inr, refl, subst, sym}
 use Rattle.drum_lines.specs.Status.{status_of}
 use Rattle.drum_lines.specs.VerdictText.{verdict_text}
-use Rattle.drum_lines.specs.Output.{GetsResult, device}
+use Rattle.drum_lines.specs.Output.{GetsResult}
 use Rattle.drum_hop_lines.specs.TraceText.{stride_lines}
 use Rattle.drum_documents.specs.Documents.{setting_of}
 use Rattle.drum_replay.specs.Coverage.{coverage_lines}
@@ -20,9 +20,9 @@ returns-in-Ok g c given is =
     let written = c.in-Ok.ensures.written given is.begun_of in
     let strides = written.0 in
     let by = c.args.trace.begun.limit in
-    let old = device (g.O.Output.written c.args.out.now) (g.O.Output.failed c.args.out.now) in
-    let mid = device (g.O.Output.written c.send_trace.new.out) (g.O.Output.failed c.send_trace.new.out) in
-    let new = device (g.O.Output.written c.tell_end.new.out) (g.O.Output.failed c.tell_end.new.out) in
+    let old = g.O.Output.device c.args.out.now in
+    let mid = g.O.Output.device c.send_trace.new.out in
+    let new = g.O.Output.device c.tell_end.new.out in
     let steps : List ℕ = stride_lines all.times 1 strides in
     let told : List ℕ = coverage_lines notes strides verdict in
     let end : List ℕ = verdict_text by verdict in

@@ -9,13 +9,13 @@ returns-in_err-sent-clause-sent g c =
     let line = c.args.self.now in
     let p = err_from_is_err_and c.from_residual.result c.from_residual.ensures.1 in
     rw (p.1, p.2) (placed_cut (entry_in line.times.now) line.begun line.ended (seen_placed line.one)
-    c.of-moments.result c.of-moments.ensures (g.O.Output.written c.args.writer.now)
-    (g.O.Output.written c.send_hop.new.writer) c.args.sent c.in_err-sent.field-0.0 c.in_err-sent.ensures.sent)
+    c.of-moments.result c.of-moments.ensures (g.O.Output.device c.args.writer.now).written
+    (g.O.Output.device c.send_hop.new.writer).written c.args.sent c.in_err-sent.field-0.0 c.in_err-sent.ensures.sent)
 
 pub returns-clause-sent : goal.returns-clause-sent
 returns-clause-sent g c =
     let line = c.args.self.now in
     placed_sent (entry_in line.times.now) line.begun line.ended (seen_placed line.one) c.of-moments.result
-    c.of-moments.ensures (g.O.Output.written c.args.writer.now) (g.O.Output.written c.send_hop.new.writer)
-    (g.O.Output.written c.send_times_later.new.writer) c.args.sent c.in_ok-sent.sent c.send_times_later.result
+    c.of-moments.ensures (g.O.Output.device c.args.writer.now).written (g.O.Output.device c.send_hop.new.writer).written
+    (g.O.Output.device c.send_times_later.new.writer).written c.args.sent c.in_ok-sent.sent c.send_times_later.result
     c.in_ok-sent.ensures.sent c.send_times_later.ensures.sent

@@ -6,6 +6,7 @@ use Rattle.std.proofs.lemmas.Result.{err_from_is_err_and}
 use Rattle.std.proofs.Common.{◌-◌, None, Some, take, drop, get_or}
 use Rattle.std.proofs.lemmas.Option.{slice_get_within}
 use Rattle.std.specs.Prelude.{OnOk}
+use Rattle.drum_devices.specs.Device.{one_more}
 use Rattle.drum_walks.specs.declared.piece.Piece.{Piece}
 use Rattle.drum_walks.specs.Pieces.{spelled_of}
 use Rattle.drum_bracket.specs.ProgressOf.{held_by, sent_by, told_of, HasAdded, HasMoved, HasTold, MayTell}
@@ -22,8 +23,8 @@ pub first-returns-in_err-pass-clause-lines : goal.first-returns-in_err-pass-clau
 first-returns-in_err-pass-clause-lines g t c =
     let old = c.args.progress.now in
     let begun = c.begin.new.self in
-    let was = g.O.Output.written c.args.writer.now in
-    let now = g.O.Output.written c.pass.new.writer in
+    let was = (g.O.Output.device c.args.writer.now).written in
+    let now = (g.O.Output.device c.pass.new.writer).written in
     let fault = c.in_err-pass.field-0.0 in
     let p = err_from_is_err_and c.from_residual.result c.from_residual.ensures.1 in
     rw (p.1, p.2) (cut_first (begin_part c.args.number) (piece_told c.args.self.now c.args.number c.args.piece.now)
@@ -54,9 +55,9 @@ first-returns-in_err-piece-clause-lines g t c =
     let old = c.args.progress.now in
     let begun = c.begin.new.self in
     let between = c.pass.new.self in
-    let was = g.O.Output.written c.args.writer.now in
-    let mid = g.O.Output.written c.pass.new.writer in
-    let now = g.O.Output.written c.piece.new.writer in
+    let was = (g.O.Output.device c.args.writer.now).written in
+    let mid = (g.O.Output.device c.pass.new.writer).written in
+    let now = (g.O.Output.device c.piece.new.writer).written in
     let fault = c.in_err-piece.field-0.0 in
     let p = err_from_is_err_and c.from_residual-in_err-piece.result c.from_residual-in_err-piece.ensures.1 in
     rw (p.1, p.2) (cut_second (begin_part c.args.number) (piece_told c.args.self.now c.args.number c.args.piece.now)
@@ -72,10 +73,10 @@ first-returns-clause-lines g t c =
     let between = c.pass.new.self in
     let later = c.piece.new.progress in
     let new = c.pass-2.new.self in
-    let was = g.O.Output.written c.args.writer.now in
-    let mid = g.O.Output.written c.pass.new.writer in
-    let soon = g.O.Output.written c.piece.new.writer in
-    let now = g.O.Output.written c.pass-2.new.writer in
+    let was = (g.O.Output.device c.args.writer.now).written in
+    let mid = (g.O.Output.device c.pass.new.writer).written in
+    let soon = (g.O.Output.device c.piece.new.writer).written in
+    let now = (g.O.Output.device c.pass-2.new.writer).written in
     let tell : Telling = piece_told c.args.self.now c.args.number c.args.piece.now in
     let moved : told_of between ≡ (begin_part c.args.number (told_of old)).1 =
     c.in_ok-pass.ensures.moved.same ∙ c.begin.ensures.told in
@@ -114,7 +115,7 @@ first-returns-clause-told g t c =
 pub named-returns-then-number-limit-clause-lines : goal.named-returns-then-number-limit-clause-lines
 named-returns-then-number-limit-clause-lines g t c =
     let old = c.args.progress.now in
-    let was = g.O.Output.written c.args.writer.now in
+    let was = (g.O.Output.device c.args.writer.now).written in
     let is = named_beyond c.args.self.now c.args.limit c.args.number (told_of old) c.requires.within c.if-number-limit.true in
     subst (λ (x : List (List ℕ) × PartsSoFar). HasAdded was was old.sent (held_by old) (Ok old.sent) (held_by old) x.0) (sym is)
     (added_none was old.sent (held_by old))
@@ -151,7 +152,7 @@ named-returns-then-not-is_part-clause-lines g t c =
     c.pieces.ensures (omega (arith, c.if-number-limit.false, c.requires.within)) c.index-pieces-number.is in
     let is = named_plain c.args.self.now c.args.limit c.args.number c.index-pieces-number.result (told_of old)
     c.if-number-limit.false at (sym c.if-not-is_part.ensures) in
-    subst (λ (x : List (List ℕ) × PartsSoFar). HasAdded (g.O.Output.written c.args.writer.now) (g.O.Output.written c.piece.new.writer)
+    subst (λ (x : List (List ℕ) × PartsSoFar). HasAdded (g.O.Output.device c.args.writer.now).written (g.O.Output.device c.piece.new.writer).written
     old.sent (held_by old) (sent_by c.piece.result new.sent) (held_by new) x.0) (sym is) c.piece.ensures.lines
 
 pub named-returns-then-not-is_part-clause-told : goal.named-returns-then-not-is_part-clause-told
@@ -210,7 +211,7 @@ named-returns-in-None-clause-lines g t c =
     (omega (arith, less, c.requires.may.parts)) c.index.ensures c.in-None.is in
     let is = named_part c.args.self.now c.args.limit c.args.number c.index-pieces-number.result (told_of old)
     c.if-number-limit.false at None (sym c.if-not-is_part.ensures) part in
-    subst (λ (x : List (List ℕ) × PartsSoFar). HasAdded (g.O.Output.written c.args.writer.now) (g.O.Output.written c.first.new.writer)
+    subst (λ (x : List (List ℕ) × PartsSoFar). HasAdded (g.O.Output.device c.args.writer.now).written (g.O.Output.device c.first.new.writer).written
     old.sent (held_by old) (sent_by c.first.result new.sent) (held_by new) x.0) (sym is) c.first.ensures.lines
 
 pub named-returns-in-None-clause-told : goal.named-returns-in-None-clause-told
@@ -239,7 +240,7 @@ named-returns-in-Some-clause-lines g t c =
     (omega (arith, less, c.requires.may.parts)) c.index.ensures c.in-Some.is in
     let is = named_part c.args.self.now c.args.limit c.args.number c.index-pieces-number.result (told_of old)
     c.if-number-limit.false at (Some c.in-Some.part) (sym c.if-not-is_part.ensures) part in
-    subst (λ (x : List (List ℕ) × PartsSoFar). HasAdded (g.O.Output.written c.args.writer.now) (g.O.Output.written c.again.new.writer)
+    subst (λ (x : List (List ℕ) × PartsSoFar). HasAdded (g.O.Output.device c.args.writer.now).written (g.O.Output.device c.again.new.writer).written
     old.sent (held_by old) (sent_by c.again.result new.sent) (held_by new) x.0) (sym is) c.again.ensures.lines
 
 pub named-returns-in-Some-clause-told : goal.named-returns-in-Some-clause-told
@@ -285,7 +286,7 @@ piece-returns-in-Row-clause-lines g t c =
     let new = c.row.new.progress in
     let is = row_is_told c.args.self.now c.args.number c.args.piece.now c.in-Row.names c.deref.result.now (told_of old)
     c.in-Row.is c.deref.ensures.value in
-    subst (λ (x : List (List ℕ) × PartsSoFar). HasAdded (g.O.Output.written c.args.writer.now) (g.O.Output.written c.row.new.writer)
+    subst (λ (x : List (List ℕ) × PartsSoFar). HasAdded (g.O.Output.device c.args.writer.now).written (g.O.Output.device c.row.new.writer).written
     old.sent (held_by old) (sent_by c.row.result new.sent) (held_by new) x.0) (sym is) c.row.ensures.lines
 
 pub piece-returns-in-Row-clause-told : goal.piece-returns-in-Row-clause-told
@@ -302,8 +303,8 @@ rounds-returns-in_err-pass-clause-lines g t c =
     let self = c.args.self.now in
     let rounds = c.args.rounds in
     let hops = spelled_of (pieces_in self) rounds.piece in
-    let was = g.O.Output.written c.args.writer.now in
-    let now = g.O.Output.written c.pass.new.writer in
+    let was = (g.O.Output.device c.args.writer.now).written in
+    let now = (g.O.Output.device c.pass.new.writer).written in
     let tell : Telling = named_told self c.args.limit rounds.piece in
     let each = (tell (told_of old)).1.time - old.time in
     let ended = old.time + rounds.times * each in
@@ -352,9 +353,9 @@ rounds-returns-in_err-named-clause-lines g t c =
     let self = c.args.self.now in
     let rounds = c.args.rounds in
     let hops = spelled_of (pieces_in self) rounds.piece in
-    let was = g.O.Output.written c.args.writer.now in
-    let mid = g.O.Output.written c.pass.new.writer in
-    let now = g.O.Output.written c.named.new.writer in
+    let was = (g.O.Output.device c.args.writer.now).written in
+    let mid = (g.O.Output.device c.pass.new.writer).written in
+    let now = (g.O.Output.device c.named.new.writer).written in
     let tell : Telling = named_told self c.args.limit rounds.piece in
     let each = (tell (told_of old)).1.time - old.time in
     let ended = old.time + rounds.times * each in
@@ -424,10 +425,10 @@ rounds-returns-clause-lines g t c =
     let self = c.args.self.now in
     let rounds = c.args.rounds in
     let hops = spelled_of (pieces_in self) rounds.piece in
-    let was = g.O.Output.written c.args.writer.now in
-    let mid = g.O.Output.written c.pass.new.writer in
-    let soon = g.O.Output.written c.named.new.writer in
-    let now = g.O.Output.written c.pass-2.new.writer in
+    let was = (g.O.Output.device c.args.writer.now).written in
+    let mid = (g.O.Output.device c.pass.new.writer).written in
+    let soon = (g.O.Output.device c.named.new.writer).written in
+    let now = (g.O.Output.device c.pass-2.new.writer).written in
     let tell : Telling = named_told self c.args.limit rounds.piece in
     let each = c.saturating_sub-each.result in
     let ended = old.time + rounds.times * each in
@@ -489,7 +490,7 @@ rounds-returns-clause-told g t c =
 pub row-loop-number-init : goal.row-loop-number-init
 row-loop-number-init g t c =
     let old = c.args.progress.now in
-    let was = g.O.Output.written c.args.writer.now in
+    let was = (g.O.Output.device c.args.writer.now).written in
     let called = g.O.Output.called c.args.writer.now in
     let none = sym (row_none c.args.self.now c.args.limit (told_of old)) in
     record {
@@ -512,12 +513,12 @@ row-loop-number-preserved g t c =
     let one : Telling = row_told self c.args.limit (take i names) in
     let other : Telling = named_told self c.args.limit (get_or names i 0) in
     let so_far = c.loop-number.invariant in
-    let was = g.O.Output.written c.args.writer.now in
-    let now = g.O.Output.written c.named.new.writer in
+    let was = (g.O.Output.device c.args.writer.now).written in
+    let now = (g.O.Output.device c.named.new.writer).written in
     record {
       lines =
           subst (λ (x : List (List ℕ) × PartsSoFar). HasAdded was now old.sent (held_by old) (Ok new.sent) (held_by new) x.0) more
-          (then_lines one other was (g.O.Output.written c.loop-number.writer) now old between (Ok new.sent) (held_by new)
+          (then_lines one other was (g.O.Output.device c.loop-number.writer).written now old between (Ok new.sent) (held_by new)
           so_far.told.now so_far.lines c.in_ok-named.ensures.lines);
       told =
           subst (HasTold (g.O.Output.called c.args.writer.now) (g.O.Output.called c.named.new.writer) old new) more
@@ -557,9 +558,9 @@ row-returns-in_err-named-clause-lines g t c =
     let one : Telling = row_told self c.args.limit (take i names) in
     let other : Telling = named_told self c.args.limit (get_or names i 0) in
     let rest : Telling = row_told self c.args.limit (drop (i + 1) names) in
-    let was = g.O.Output.written c.args.writer.now in
-    let mid = g.O.Output.written c.loop-number.writer in
-    let now = g.O.Output.written c.named.new.writer in
+    let was = (g.O.Output.device c.args.writer.now).written in
+    let mid = (g.O.Output.device c.loop-number.writer).written in
+    let now = (g.O.Output.device c.named.new.writer).written in
     let fault = c.in_err-named.field-0.0 in
     let after = held_by c.named.new.progress in
     let next = other (told_of between) in
@@ -574,14 +575,14 @@ row-returns-in_err-named-clause-lines g t c =
 pub row-returns-in_err-named-clause-failures : goal.row-returns-in_err-named-clause-failures
 row-returns-in_err-named-clause-failures g t c =
     let p = err_from_is_err_and c.from_residual.result c.from_residual.ensures.1 in
-    rw p.1 (omega (arith, c.loop-number.invariant.failures, c.in_err-named.ensures.failures))
+    rw p.1 (c.in_err-named.ensures.failures ∙ ap one_more c.loop-number.invariant.failures)
 
 pub row-returns-clause-lines : goal.row-returns-clause-lines
 row-returns-clause-lines g t c =
     let old = c.args.progress.now in
     let new = c.loop-number.progress in
-    subst (λ (x : List (List ℕ) × PartsSoFar). HasAdded (g.O.Output.written c.args.writer.now)
-    (g.O.Output.written c.loop-number.writer) old.sent (held_by old) (Ok new.sent) (held_by new) x.0)
+    subst (λ (x : List (List ℕ) × PartsSoFar). HasAdded (g.O.Output.device c.args.writer.now).written
+    (g.O.Output.device c.loop-number.writer).written old.sent (held_by old) (Ok new.sent) (held_by new) x.0)
     (row_all c.args.self.now c.args.limit c.args.names.now c.loop-number.number-index (told_of old)
     c.loop-number-test.false) c.loop-number.invariant.lines
 

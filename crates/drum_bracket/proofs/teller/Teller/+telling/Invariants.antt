@@ -22,10 +22,10 @@ decreases-first g l = 4 * l.number + 3
 -- the pieces so far were told
 abbrev pub invariant-row-loop-number : goal.invariant-row-loop-number
 invariant-row-loop-number g l = record {
-  lines : HasAdded (g.O.Output.written l.fn.writer) (g.O.Output.written l.writer) l.fn.progress.sent
+  lines : HasAdded (g.O.Output.device l.fn.writer).written (g.O.Output.device l.writer).written l.fn.progress.sent
       (held_by l.fn.progress) (Ok l.progress.sent) (held_by l.progress)
       (row_told l.self l.limit (take l.number-index l.names) (told_of l.fn.progress)).0;
   told : HasTold (g.O.Output.called l.fn.writer) (g.O.Output.called l.writer) l.fn.progress l.progress
       (row_told l.self l.limit (take l.number-index l.names) (told_of l.fn.progress));
-  failures : g.O.Output.failed l.writer ≡ g.O.Output.failed l.fn.writer;
+  failures : (g.O.Output.device l.writer).failures ≡ (g.O.Output.device l.fn.writer).failures;
 }

@@ -15,9 +15,9 @@ returns-in_err-sent-clause-sent g c =
     let rows = c.args.rows.now in
     let index = c.loop-row.row-index in
     let row = c.row-item.result in
-    let old = g.O.Output.written c.args.writer.now in
-    let between = g.O.Output.written c.loop-row.writer in
-    let new = g.O.Output.written c.send_kind.new.writer in
+    let old = (g.O.Output.device c.args.writer.now).written in
+    let between = (g.O.Output.device c.loop-row.writer).written in
+    let new = (g.O.Output.device c.send_kind.new.writer).written in
     let fault = c.in_err-sent.field-0.0 in
     let p = err_from_is_err_and c.from_residual.result c.from_residual.ensures.1 in
     let here : IsSent between new c.loop-row.sent (Err fault) (line (get_or rows index row)) =
@@ -31,9 +31,9 @@ loop-row-preserved g c =
     let rows = c.args.rows.now in
     let index = c.loop-row.row-index in
     let row = c.row-item.result in
-    let old = g.O.Output.written c.args.writer.now in
-    let between = g.O.Output.written c.loop-row.writer in
-    let new = g.O.Output.written c.send_kind.new.writer in
+    let old = (g.O.Output.device c.args.writer.now).written in
+    let between = (g.O.Output.device c.loop-row.writer).written in
+    let new = (g.O.Output.device c.send_kind.new.writer).written in
     let here : IsSent between new c.loop-row.sent (Ok c.in_ok-sent.sent) (line (get_or rows index row)) =
     subst (IsSent between new c.loop-row.sent (Ok c.in_ok-sent.sent)) (ap line c.row-item.is)
     c.in_ok-sent.ensures.sent in

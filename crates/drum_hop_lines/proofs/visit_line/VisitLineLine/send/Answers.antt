@@ -16,8 +16,8 @@ returns-in_err-sent-clause-sent g c =
     let times = entry_in c.args.self.now.times.now in
     let hop = seen_timed c.of-told.result in
     let moments = c.of-moments.result in
-    let old = g.O.Output.written c.args.writer.now in
-    let new = g.O.Output.written c.send_hop.new.writer in
+    let old = (g.O.Output.device c.args.writer.now).written in
+    let new = (g.O.Output.device c.send_hop.new.writer).written in
     let fault = c.in_err-sent.field-0.0 in
     let p = err_from_is_err_and c.from_residual.result c.from_residual.ensures.1 in
     rw (p.1, p.2) (subst (λ (visit : Visited). IsSent old new c.args.sent (Err fault) (visit_line times c.args.self.now.angle visit))
@@ -30,9 +30,9 @@ returns-clause-sent g c =
     let times = entry_in c.args.self.now.times.now in
     let hop = seen_timed c.of-told.result in
     let moments = c.of-moments.result in
-    let old = g.O.Output.written c.args.writer.now in
-    let between = g.O.Output.written c.send_hop.new.writer in
-    let new = g.O.Output.written c.send_times.new.writer in
+    let old = (g.O.Output.device c.args.writer.now).written in
+    let between = (g.O.Output.device c.send_hop.new.writer).written in
+    let new = (g.O.Output.device c.send_times.new.writer).written in
     subst (λ (visit : Visited). IsSent old new c.args.sent c.send_times.result (visit_line times c.args.self.now.angle visit))
     c.of-told.ensures.same
     (subst (IsSent old new c.args.sent c.send_times.result) (visit_told times c.args.self.now.angle hop moments c.of-moments.ensures)

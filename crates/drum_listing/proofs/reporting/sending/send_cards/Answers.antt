@@ -38,9 +38,9 @@ pub returns-in_err-sent-clause-sent : goal.returns-in_err-sent-clause-sent
 returns-in_err-sent-clause-sent g c walk by_line =
     let deck = c.args.deck.now in
     let index = c.loop-line.line-index in
-    let old = g.O.Output.written c.args.writer.now in
-    let between = g.O.Output.written c.loop-line.writer in
-    let new = g.O.Output.written c.send_card.new.writer in
+    let old = (g.O.Output.device c.args.writer.now).written in
+    let between = (g.O.Output.device c.loop-line.writer).written in
+    let new = (g.O.Output.device c.send_card.new.writer).written in
     let fault = c.in_err-sent.field-0.0 in
     let p = err_from_is_err_and c.from_residual.result c.from_residual.ensures.1 in
     let cards = c.cards-line-items.result.now in
@@ -57,9 +57,9 @@ pub loop-line-preserved : goal.loop-line-preserved
 loop-line-preserved g c =
     let deck = c.args.deck.now in
     let index = c.loop-line.line-index in
-    let old = g.O.Output.written c.args.writer.now in
-    let between = g.O.Output.written c.loop-line.writer in
-    let new = g.O.Output.written c.send_card.new.writer in
+    let old = (g.O.Output.device c.args.writer.now).written in
+    let between = (g.O.Output.device c.loop-line.writer).written in
+    let new = (g.O.Output.device c.send_card.new.writer).written in
     let cards = c.cards-line-items.result.now in
     let held : cards ≡ cards_in deck = c.cards-line-items.ensures.held in
     let within : index < length (cards_in deck) = omega (arith, c.loop-line-test.true, ap length held) in

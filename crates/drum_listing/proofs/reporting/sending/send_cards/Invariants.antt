@@ -10,9 +10,9 @@ use Rattle.drum_listing.proofs.reporting.sending.send_cards.Given as goal
 abbrev pub invariant-loop-line : goal.invariant-loop-line
 invariant-loop-line g l = record {
   so_far : (walk : List Visited) → AreByLine l.deck walk l.tallies
-      → IsSent (g.O.Output.written l.fn.writer) (g.O.Output.written l.writer) 0 (Ok l.sent)
+      → IsSent (g.O.Output.device l.fn.writer).written (g.O.Output.device l.writer).written 0 (Ok l.sent)
       (flat_map (card_line l.deck walk) (take l.line-index (cards_in l.deck)));
   few : l.sent ≤ 120 * l.line-index;
   calls : g.O.Output.called l.writer ≤ g.O.Output.called l.fn.writer + 120 * l.line-index;
-  failures : g.O.Output.failed l.writer ≡ g.O.Output.failed l.fn.writer;
+  failures : (g.O.Output.device l.writer).failures ≡ (g.O.Output.device l.fn.writer).failures;
 }

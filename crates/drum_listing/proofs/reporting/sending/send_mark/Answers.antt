@@ -9,7 +9,7 @@ use Rattle.drum_listing.proofs.reporting.sending.send_mark.Goals as goal
 pub returns-clause-sent : goal.returns-clause-sent
 returns-clause-sent g c =
     let Sent : List ℕ → Type 0 =
-    IsSent (g.O.Output.written c.args.writer.now) (g.O.Output.written c.send.new.output) c.args.sent
+    IsSent (g.O.Output.device c.args.writer.now).written (g.O.Output.device c.send.new.output).written c.args.sent
     c.send.result in
     let numbers : List ℕ = decimal c.args.passed ++ codes " of " ++ decimal c.args.mark.now.most
     ++ name_text c.args.mark.now.name ++ codes "\n" in

@@ -26,9 +26,9 @@ returns-in_err-sent-clause-sent g c walk passes =
     let marks = c.args.marks.now in
     let place = c.loop-place.place in
     let mark = c.index-marks-place.result in
-    let old = g.O.Output.written c.args.writer.now in
-    let between = g.O.Output.written c.loop-place.writer in
-    let new = g.O.Output.written c.send_mark.new.writer in
+    let old = (g.O.Output.device c.args.writer.now).written in
+    let between = (g.O.Output.device c.loop-place.writer).written in
+    let new = (g.O.Output.device c.send_mark.new.writer).written in
     let fault = c.in_err-sent.field-0.0 in
     let p = err_from_is_err_and c.from_residual.result c.from_residual.ensures.1 in
     let here : IsSent between new c.loop-place.sent (Err fault) (mark_line walk (get_or marks place mark)) =
@@ -43,9 +43,9 @@ loop-place-preserved g c =
     let marks = c.args.marks.now in
     let place = c.loop-place.place in
     let mark = c.index-marks-place.result in
-    let old = g.O.Output.written c.args.writer.now in
-    let between = g.O.Output.written c.loop-place.writer in
-    let new = g.O.Output.written c.send_mark.new.writer in
+    let old = (g.O.Output.device c.args.writer.now).written in
+    let between = (g.O.Output.device c.loop-place.writer).written in
+    let new = (g.O.Output.device c.send_mark.new.writer).written in
     record {
       so_far = λ walk passes.
           let here : IsSent between new c.loop-place.sent (Ok c.in_ok-sent.sent)

@@ -9,9 +9,9 @@ use Rattle.drum_listing.proofs.reporting.sending.send_marks.Given as goal
 abbrev pub invariant-loop-place : goal.invariant-loop-place
 invariant-loop-place g l = record {
   so_far : (walk : List Visited) → ArePasses l.marks walk l.passed
-      → IsSent (g.O.Output.written l.fn.writer) (g.O.Output.written l.writer) l.fn.sent (Ok l.sent)
+      → IsSent (g.O.Output.device l.fn.writer).written (g.O.Output.device l.writer).written l.fn.sent (Ok l.sent)
       (flat_map (mark_line walk) (take l.place l.marks));
   few : l.sent ≤ l.fn.sent + 120 * l.place;
   calls : g.O.Output.called l.writer ≤ g.O.Output.called l.fn.writer + 120 * l.place;
-  failures : g.O.Output.failed l.writer ≡ g.O.Output.failed l.fn.writer;
+  failures : (g.O.Output.device l.writer).failures ≡ (g.O.Output.device l.fn.writer).failures;
 }

@@ -6,7 +6,7 @@ use Rattle.drum_listing.proofs.reporting.sending.send_other.Goals as goal
 
 pub returns-clause-sent : goal.returns-clause-sent
 returns-clause-sent g c =
-    subst (λ (rest : List ℕ). IsSent (g.O.Output.written c.args.writer.now) (g.O.Output.written c.send.new.output)
+    subst (λ (rest : List ℕ). IsSent (g.O.Output.device c.args.writer.now).written (g.O.Output.device c.send.new.output).written
     c.args.sent c.send.result
     (codes "other visits " ++ rest))
     (two_texts (codes " time ") c.as_bytes.result.now (decimal c.args.tally.now.visits) c.as_bytes-2.result.now

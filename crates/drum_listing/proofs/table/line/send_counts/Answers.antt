@@ -12,9 +12,9 @@ pub returns-in_err-sent-clause-sent : goal.returns-in_err-sent-clause-sent
 returns-in_err-sent-clause-sent g c =
     let items = c.args.counts.now in
     let index = c.loop-count.count-index in
-    let old = g.O.Output.written c.args.writer.now in
-    let between = g.O.Output.written c.loop-count.writer in
-    let new = g.O.Output.written c.send_count.new.writer in
+    let old = (g.O.Output.device c.args.writer.now).written in
+    let between = (g.O.Output.device c.loop-count.writer).written in
+    let new = (g.O.Output.device c.send_count.new.writer).written in
     let fault = c.in_err-sent.field-0.0 in
     let p = err_from_is_err_and c.from_residual.result c.from_residual.ensures.1 in
     rw (p.1, p.2) (sent_cut count_text items index 0 c.loop-count-test.true old between new c.args.begun
@@ -23,8 +23,8 @@ returns-in_err-sent-clause-sent g c =
 pub returns-clause-sent : goal.returns-clause-sent
 returns-clause-sent g c =
     let items = c.args.counts.now in
-    let old = g.O.Output.written c.args.writer.now in
-    let new = g.O.Output.written c.loop-count.writer in
+    let old = (g.O.Output.device c.args.writer.now).written in
+    let new = (g.O.Output.device c.loop-count.writer).written in
     let past : length items ≤ c.loop-count.count-index = omega (arith, c.loop-count-test.false) in
     subst (λ (xs : List ℕ). IsSent old new c.args.begun (Ok c.loop-count.sent) (flat_map count_text xs))
     (take_all c.loop-count.count-index items past) c.loop-count.invariant.so_far
@@ -33,9 +33,9 @@ pub loop-count-preserved : goal.loop-count-preserved
 loop-count-preserved g c =
     let items = c.args.counts.now in
     let index = c.loop-count.count-index in
-    let old = g.O.Output.written c.args.writer.now in
-    let between = g.O.Output.written c.loop-count.writer in
-    let new = g.O.Output.written c.send_count.new.writer in
+    let old = (g.O.Output.device c.args.writer.now).written in
+    let between = (g.O.Output.device c.loop-count.writer).written in
+    let new = (g.O.Output.device c.send_count.new.writer).written in
     record {
       so_far =
           sent_more count_text items index 0 c.loop-count-test.true old between new c.args.begun

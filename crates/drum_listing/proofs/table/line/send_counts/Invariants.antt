@@ -6,9 +6,9 @@ use Rattle.drum_listing.proofs.table.line.send_counts.Given as goal
 -- the counts so far have gone out
 abbrev pub invariant-loop-count : goal.invariant-loop-count
 invariant-loop-count g l = record {
-  so_far : IsSent (g.O.Output.written l.fn.writer) (g.O.Output.written l.writer) l.fn.begun (Ok l.sent)
+  so_far : IsSent (g.O.Output.device l.fn.writer).written (g.O.Output.device l.writer).written l.fn.begun (Ok l.sent)
       (flat_map count_text (take l.count-index l.counts));
   few : l.sent ≤ l.fn.begun + 10 * l.count-index;
   calls : g.O.Output.called l.writer ≤ g.O.Output.called l.fn.writer + 10 * l.count-index;
-  failures : g.O.Output.failed l.writer ≡ g.O.Output.failed l.fn.writer;
+  failures : (g.O.Output.device l.writer).failures ≡ (g.O.Output.device l.fn.writer).failures;
 }

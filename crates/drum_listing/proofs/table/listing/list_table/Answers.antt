@@ -19,8 +19,8 @@ pub returns-in_err-send_rows-clause-written : goal.returns-in_err-send_rows-clau
 returns-in_err-send_rows-clause-written g c =
     let marks = c.args.marks.now in
     let rows = c.args.table.now.rows.items in
-    let old = g.O.Output.written c.args.writer.now in
-    let new = g.O.Output.written c.send_rows.new.writer in
+    let old = (g.O.Output.device c.args.writer.now).written in
+    let new = (g.O.Output.device c.send_rows.new.writer).written in
     let fault = c.in_err-send_rows.field-0.0 in
     let p = err_from_is_err_and c.from_residual.result c.from_residual.ensures.1 in
     let told : IsSent old new 0 (Err fault) (flat_map (line marks) rows) =
@@ -33,8 +33,8 @@ pub returns-clause-written : goal.returns-clause-written
 returns-clause-written g c =
     let marks = c.args.marks.now in
     let rows = c.args.table.now.rows.items in
-    let old = g.O.Output.written c.args.writer.now in
-    let new = g.O.Output.written c.send_rows.new.writer in
+    let old = (g.O.Output.device c.args.writer.now).written in
+    let new = (g.O.Output.device c.send_rows.new.writer).written in
     let total = c.in_ok-send_rows.field-0 in
     let told : IsSent old new 0 (Ok total) (flat_map (line marks) rows) =
     subst (λ (xs : List Worst). IsSent old new 0 (Ok total) (flat_map (line marks) xs)) c.deref.ensures.value

@@ -21,8 +21,8 @@ returns-in_err-sent-clause-sent g c =
     let i = c.loop-row.row-index in
     let row = c.row-item.result in
     let so_far = c.loop-row.invariant in
-    let old = g.O.Output.written c.args.writer.now in
-    let new = g.O.Output.written c.pass_line.new.writer in
+    let old = (g.O.Output.device c.args.writer.now).written in
+    let new = (g.O.Output.device c.pass_line.new.writer).written in
     let fault = c.in_err-sent.field-0.0 in
     let p = err_from_is_err_and c.from_residual.result c.from_residual.ensures.1 in
     let here : IsSent old new 0 (Err fault) (so_far.gone ++ (text_of c.loop-row.page ++ line row)) =
@@ -39,7 +39,7 @@ pub loop-row-preserved : goal.loop-row-preserved
 loop-row-preserved g c =
     let line : Worst → List ℕ = λ row. row_line c.args.marks.now (row_in row) in
     let so_far = c.loop-row.invariant in
-    let now = c.in_ok-sent.ensures.sent (g.O.Output.written c.args.writer.now) so_far.gone so_far.so_far in
+    let now = c.in_ok-sent.ensures.sent (g.O.Output.device c.args.writer.now).written so_far.gone so_far.so_far in
     record {
       gone = now.0;
       so_far = now.1;
@@ -59,9 +59,9 @@ pub returns-clause-sent : goal.returns-clause-sent
 returns-clause-sent g c =
     let line : Worst → List ℕ = λ row. row_line c.args.marks.now (row_in row) in
     let so_far = c.loop-row.invariant in
-    let old = g.O.Output.written c.args.writer.now in
-    let between = g.O.Output.written c.loop-row.writer in
-    let new = g.O.Output.written c.send.new.output in
+    let old = (g.O.Output.device c.args.writer.now).written in
+    let between = (g.O.Output.device c.loop-row.writer).written in
+    let new = (g.O.Output.device c.send.new.output).written in
     let held = text_of c.loop-row.page in
     let all : flat_map line (take c.loop-row.row-index c.args.rows.now) ≡ flat_map line c.args.rows.now =
     ap (flat_map line) (take_all c.args.rows.now c.loop-row.row-index (omega (arith, c.loop-row-test.false))) in

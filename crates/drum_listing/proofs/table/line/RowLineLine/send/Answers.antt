@@ -13,8 +13,8 @@ pub returns-in_err-sent-clause-sent : goal.returns-in_err-sent-clause-sent
 returns-in_err-sent-clause-sent g c =
     let row = row_in c.args.self.now.row.now in
     let marks = c.args.self.now.marks.now in
-    let old = g.O.Output.written c.args.writer.now in
-    let new = g.O.Output.written c.send_place.new.writer in
+    let old = (g.O.Output.device c.args.writer.now).written in
+    let new = (g.O.Output.device c.send_place.new.writer).written in
     let fault = c.in_err-sent.field-0.0 in
     let p = err_from_is_err_and c.from_residual.result c.from_residual.ensures.1 in
     rw (p.1, p.2) (subst (IsSent old new c.args.sent (Err fault)) (row_pieces marks row)
@@ -25,9 +25,9 @@ pub returns-in_err-sent-2-clause-sent : goal.returns-in_err-sent-2-clause-sent
 returns-in_err-sent-2-clause-sent g c =
     let row = row_in c.args.self.now.row.now in
     let marks = c.args.self.now.marks.now in
-    let old = g.O.Output.written c.args.writer.now in
-    let first = g.O.Output.written c.send_place.new.writer in
-    let new = g.O.Output.written c.send_counts.new.writer in
+    let old = (g.O.Output.device c.args.writer.now).written in
+    let first = (g.O.Output.device c.send_place.new.writer).written in
+    let new = (g.O.Output.device c.send_counts.new.writer).written in
     let fault = c.in_err-sent-2.field-0.0 in
     let p = err_from_is_err_and c.from_residual-in_err-sent-2.result c.from_residual-in_err-sent-2.ensures.1 in
     let counts : IsSent first new c.in_ok-sent.sent (Err fault) (counts_text marks row) =
@@ -42,10 +42,10 @@ pub returns-clause-sent : goal.returns-clause-sent
 returns-clause-sent g c =
     let row = row_in c.args.self.now.row.now in
     let marks = c.args.self.now.marks.now in
-    let old = g.O.Output.written c.args.writer.now in
-    let first = g.O.Output.written c.send_place.new.writer in
-    let second = g.O.Output.written c.send_counts.new.writer in
-    let new = g.O.Output.written c.send_time.new.writer in
+    let old = (g.O.Output.device c.args.writer.now).written in
+    let first = (g.O.Output.device c.send_place.new.writer).written in
+    let second = (g.O.Output.device c.send_counts.new.writer).written in
+    let new = (g.O.Output.device c.send_time.new.writer).written in
     let total = c.in_ok-sent-2.sent in
     let counts : IsSent first second c.in_ok-sent.sent (Ok total) (counts_text marks row) =
     subst (λ (xs : List ℕ). IsSent first second c.in_ok-sent.sent (Ok total) (flat_map count_text xs))
