@@ -1,0 +1,149 @@
+-- What a sheet holds back goes out, or more is put on it.
+use Rattle.std.proofs.Common.{◌≡◌, ℕ, ◌+◌, ◌<◌, List, [], ◌++◌, length, take, append_assoc, append-nil, length-append}
+use Rattle.std.proofs.Common.{sym, ap, ◌∙◌, subst, arith, Bool, true, false, Result, Ok, Err, refl}
+use Rattle.std.specs.Prelude.{OnOk, IfErr, is_err}
+use Rattle.std.specs.Io.KnownBytes.{Appends}
+use Rattle.std.proofs.lemmas.List.{take-append-le}
+use Rattle.drum_devices.specs.declared.pieces.Unsent.{Unsent}
+use Rattle.drum_devices.specs.Device.{Device, failures_after, one_more}
+use Rattle.drum_devices.proofs.Bytes.{Appends-then, take_behind}
+use Rattle.drum_sheet.specs.declared.sheet.Sheet.{Sheet}
+use Rattle.drum_sheet.specs.Gets.{GetsAll}
+use Rattle.drum_sheet.specs.Stands.{IsCut, IsUnderWay, Passes, Stands, counted, gone_of, held_by}
+
+-- how a text stands where a write has failed, and where none has
+pub when_lost : (begun now : Device) (sheet : Sheet) (text : List ℕ) → sheet.is_lost ≡ true → IsCut begun now sheet text
+    → Stands begun now sheet text
+when_lost begun now sheet text lost p = rw lost p
+
+pub when_not : (begun now : Device) (sheet : Sheet) (text : List ℕ) → sheet.is_lost ≡ false
+    → IsUnderWay begun now sheet text → Stands begun now sheet text
+when_not begun now sheet text lost p = rw lost p
+
+pub is_cut : (begun now : Device) (sheet : Sheet) (text : List ℕ) → sheet.is_lost ≡ true → Stands begun now sheet text
+    → IsCut begun now sheet text
+is_cut begun now sheet text lost p = rw lost at p
+
+pub is_under_way : (begun now : Device) (sheet : Sheet) (text : List ℕ) → sheet.is_lost ≡ false
+    → Stands begun now sheet text → IsUnderWay begun now sheet text
+is_under_way begun now sheet text lost p = rw lost at p
+
+-- where a write has failed nothing more goes out
+pub lost_passes : (now : Device) (sheet sheet' : Sheet) (more : List ℕ) → sheet.is_lost ≡ true → sheet'.is_lost ≡ true
+    → sheet'.sent ≡ sheet.sent → Passes now sheet now sheet' more
+lost_passes now sheet sheet' more lost lost' same = record {
+  stands = λ begun text so_far.
+      let p = is_cut begun now sheet text lost so_far in
+      when_lost begun now sheet' (text ++ more) lost' (
+        p.0,
+        omega (arith, p.1, length-append text more),
+        subst (Appends begun.written now.written) (sym (take-append-le p.0 text more (omega (arith, p.1)))) p.2,
+        p.3,
+        same ∙ p.4,
+      );
+}
+
+-- bytes that are held back too
+pub held_passes : (now : Device) (sheet sheet' : Sheet) (more : List ℕ) → sheet'.is_lost ≡ sheet.is_lost
+    → sheet'.sent ≡ sheet.sent → held_by sheet' ≡ held_by sheet ++ more → Passes now sheet now sheet' more
+held_passes now sheet sheet' more lost same held =
+    elim sheet.is_lost as (λ b. sheet.is_lost ≡ b → Passes now sheet now sheet' more) [
+      | true ↦ λ is. lost_passes now sheet sheet' more is (lost ∙ is) same
+      | false ↦ λ is. record {
+        stands = λ begun text so_far.
+            let p = is_under_way begun now sheet text is so_far in
+            when_not begun now sheet' (text ++ more) (lost ∙ is) (
+              p.0,
+              p.1,
+              ap (λ xs. p.0 ++ xs) held ∙ sym (append_assoc p.0 (held_by sheet) more) ∙ ap (λ xs. xs ++ more) p.2,
+              same ∙ p.3,
+            );
+      }
+    ] refl
+
+-- a whole text is what has gone out, what was held back, and what is behind them
+whole : (gone held more text : List ℕ) → gone ++ held ≡ text → gone ++ (held ++ more) ≡ text ++ more
+whole gone held more text p = sym (append_assoc gone held more) ∙ ap (λ xs. xs ++ more) p
+
+-- nothing is held back
+none_held : (sheet : Sheet) → sheet.held ≡ 0 → held_by sheet ≡ []
+none_held sheet none = ap (λ n. take n sheet.bytes) none
+
+-- what was held back was written, and more behind it
+pub written_passes : (before after : Device) (sheet sheet' : Sheet) (more : List ℕ) (result : Result (Unit {0}) Unsent)
+    → sheet.is_lost ≡ false
+    → OnOk result (Appends before.written after.written (held_by sheet ++ more))
+    → IfErr result (λ error. Appends before.written after.written (take error.sent (held_by sheet ++ more)))
+    → IfErr result (λ error. error.sent < length (held_by sheet ++ more))
+    → after.failures ≡ failures_after result before.failures
+    → sheet'.held ≡ 0 → sheet'.sent ≡ counted (sheet.sent + gone_of (length (held_by sheet ++ more)) result)
+    → sheet'.is_lost ≡ is_err result
+    → Passes before sheet after sheet' more
+written_passes before after sheet sheet' more (Ok done) lost all prefix some failures none sent lost' = record {
+  stands = λ begun text so_far.
+      let p = is_under_way begun before sheet text lost so_far in
+      let held = held_by sheet in
+      when_not begun after sheet' (text ++ more) lost' (
+        p.0 ++ (held ++ more),
+        (Appends-then begun.written before.written after.written p.0 (held ++ more) p.1.0 all, failures ∙ p.1.1),
+        ap (λ xs. (p.0 ++ (held ++ more)) ++ xs) (none_held sheet' none) ∙ append-nil (p.0 ++ (held ++ more))
+            ∙ whole p.0 held more text p.2,
+        omega (arith, sent, p.3, length-append p.0 (held ++ more)),
+      );
+}
+written_passes before after sheet sheet' more (Err error) lost all prefix some failures none sent lost' = record {
+  stands = λ begun text so_far.
+      let p = is_under_way begun before sheet text lost so_far in
+      let held = held_by sheet in
+      let is = whole p.0 held more text p.2 in
+      when_lost begun after sheet' (text ++ more) lost' (
+        length p.0 + error.sent,
+        omega (arith, some, ap length is, length-append p.0 (held ++ more)),
+        subst (λ xs. Appends begun.written after.written (take (length p.0 + error.sent) xs)) is
+            (subst (Appends begun.written after.written) (sym (take_behind error.sent p.0 (held ++ more)))
+            (Appends-then begun.written before.written after.written p.0 (take error.sent (held ++ more)) p.1.0 prefix)),
+        failures ∙ ap one_more p.1.1,
+        omega (arith, sent, p.3),
+      );
+}
+
+-- what was held back was written, and nothing else
+pub turned_by : (before after : Device) (sheet sheet' : Sheet) (result : Result (Unit {0}) Unsent)
+    → sheet.is_lost ≡ false
+    → OnOk result (Appends before.written after.written (held_by sheet))
+    → IfErr result (λ error. Appends before.written after.written (take error.sent (held_by sheet)))
+    → IfErr result (λ error. error.sent < length (held_by sheet))
+    → after.failures ≡ failures_after result before.failures
+    → sheet'.held ≡ 0 → sheet'.sent ≡ counted (sheet.sent + gone_of (length (held_by sheet)) result)
+    → sheet'.is_lost ≡ is_err result
+    → Passes before sheet after sheet' []
+turned_by before after sheet sheet' result lost =
+    let P : List ℕ → Type 0 = λ xs. (OnOk result (Appends before.written after.written xs)
+    → IfErr result (λ error. Appends before.written after.written (take error.sent xs))
+    → IfErr result (λ error. error.sent < length xs)
+    → after.failures ≡ failures_after result before.failures
+    → sheet'.held ≡ 0 → sheet'.sent ≡ counted (sheet.sent + gone_of (length xs) result)
+    → sheet'.is_lost ≡ is_err result
+    → Passes before sheet after sheet' []) in
+    subst P (append-nil (held_by sheet)) (written_passes before after sheet sheet' [] result lost)
+
+-- other bytes were written, where nothing was held back
+pub passed_by : (before after : Device) (sheet sheet' : Sheet) (more : List ℕ) (result : Result (Unit {0}) Unsent)
+    → sheet.is_lost ≡ false → sheet.held ≡ 0
+    → OnOk result (Appends before.written after.written more)
+    → IfErr result (λ error. Appends before.written after.written (take error.sent more))
+    → IfErr result (λ error. error.sent < length more)
+    → after.failures ≡ failures_after result before.failures
+    → sheet'.held ≡ 0 → sheet'.sent ≡ counted (sheet.sent + gone_of (length more) result)
+    → sheet'.is_lost ≡ is_err result
+    → Passes before sheet after sheet' more
+passed_by before after sheet sheet' more result lost none =
+    let P : List ℕ → Type 0 = λ xs. (OnOk result (Appends before.written after.written xs)
+    → IfErr result (λ error. Appends before.written after.written (take error.sent xs))
+    → IfErr result (λ error. error.sent < length xs)
+    → after.failures ≡ failures_after result before.failures
+    → sheet'.held ≡ 0 → sheet'.sent ≡ counted (sheet.sent + gone_of (length xs) result)
+    → sheet'.is_lost ≡ is_err result
+    → Passes before sheet after sheet' more) in
+    subst P (ap (λ (held : List ℕ). held ++ more) (none_held sheet none))
+    (written_passes before after sheet sheet' more result lost)
