@@ -1,5 +1,3 @@
-ghost use Rattle.std.specs.Prelude.{◌≤◌, vec_len};
-
 mod gathering;
 
 use drum_acceptance::counts::product_of;
@@ -8,18 +6,14 @@ use drum_core::Location;
 use drum_deck::Deck;
 use drum_devices::Output;
 use drum_finding::{
-    Finding, Lacking, UnchangedParts, altered_at, has_edge, is_executed, list_all,
-    operations_outside,
+    Finding, Lacking, UnchangedParts, altered_at, has_edge, is_executed, operations_outside,
+    put_all,
 };
 use drum_flow::Flow;
 use drum_flow::place::{is_listed, is_there};
-use drum_lines::WriteFault;
+use drum_sheet::Sheet;
 use drum_times::{Edge, Mark, Notes};
 use std::alloc::{AllocError, Global};
-
-/// The most findings that are held, more than any deck has: of each two of the 2,004 locations
-/// there may be an altered word, a loop and an unused edge, and few others of each location.
-const MOST_FINDINGS: usize = 1 << 24;
 
 /// The most that executed words times counts may be.
 const PRODUCT_LIMIT: u128 = 4_000_000;
@@ -30,11 +24,10 @@ pub struct Findings {
     all: Vec<Finding>,
     /// Whether marks are lacking, and the notes are long once they have them.
     long: bool,
-    ghost few: { vec_len all ≤ 16777216 },
 }
 
 impl Findings {
-    ghost use Rattle.std.specs.Prelude.{◌≡◌, ◌++◌, [], ◌∷◌, ◌↔◌, ℕ, ◌+◌, ◌-◌, ◌^◌, ◌<◌};
+    ghost use Rattle.std.specs.Prelude.{◌≡◌, ◌++◌, [], ◌∷◌, ◌↔◌, ℕ, ◌+◌, ◌-◌, ◌<◌, ◌≤◌};
     ghost use Rattle.std.specs.Prelude.{map, flat_map, IsTrue, IfOk, OnOk};
     ghost use Rattle.std.specs.List.{list_all, range_with_len};
     ghost use Rattle.drum_core.specs.Location.{IsLocation};
@@ -43,7 +36,7 @@ impl Findings {
     ghost use Rattle.drum_flow.specs.Accepted as said;
     ghost use Rattle.drum_flow.specs.Executed.{AreAllNodes};
     ghost use Rattle.drum_flow.specs.Flow.{executed_in, nodes_of, of_flow};
-    ghost use Rattle.drum_lines.specs.Sent.{IsWritten, failed_writes};
+    ghost use Rattle.drum_sheet.specs.Stands.{Passes};
     ghost use Rattle.drum_finding.specs.FoundAt.{not_there, unfit, altering, too_many};
     ghost use Rattle.drum_finding.specs.Finding.{may_be_meant};
     ghost use Rattle.drum_finding.specs.FoundAt.{astray, missing, unused};
@@ -69,9 +62,6 @@ impl Findings {
     fn add(&mut self, finding: Finding) -> Result<(), AllocError>
         ensures { OnOk result (found_in self.new ≡ found_in self.old ++ seen finding ∷ []) }
     {
-        if self.all.len() == MOST_FINDINGS {
-            return Err(AllocError);
-        }
         self.all.push(finding)?;
         Ok(())
     }
@@ -326,24 +316,18 @@ impl Findings {
         Lacking::of(alloc, &self.all)
     }
 
-    /// Writes what was found, a line each, and then the notes that are lacking, as TOML: a mark for
+    /// Puts what was found, a line each, and then the notes that are lacking, as TOML: a mark for
     /// each edge that closes a loop, or for several that share it, with the number of the mark
     /// inside which it stands, behind a line that says so where these make long notes; and a list
     /// for each word that is altered. What is lacking has to be that of what was found. It takes no
     /// memory.
-    ///
-    /// # Errors
-    ///
-    /// Where a write fails or takes no byte: then a prefix of the text has gone out, of as many
-    /// bytes as the fault says.
-    pub fn list<O: Output>(&self, lacking: &Lacking, writer: &mut O) -> Result<(), WriteFault>
-        requires called { O.called writer.old ≤ 2 ^ 62 }
-        requires right { words_in lacking.now ≡ words_altered (found_in self.now) }
-        ensures written { IsWritten (O.written writer.old) (O.written writer.new) result
+    #[tactic(auto, using(drum_sheet::proofs::Passing::passing))]
+    pub fn put<O: Output>(&self, sheet: &mut Sheet, writer: &mut O, lacking: &Lacking)
+        requires { words_in lacking.now ≡ words_altered (found_in self.now) }
+        ensures { Passes (O.device writer.old) sheet.old (O.device writer.new) sheet.new
             (check_text (is_long_in self.now) (found_in self.now)) }
-        ensures failures { O.failed writer.new ≡ O.failed writer.old + failed_writes result }
     {
-        list_all(&self.all, self.long, lacking, writer)
+        put_all(sheet, writer, self.as_slice(), self.long, lacking);
     }
 
     /// Whether nothing was found at all.

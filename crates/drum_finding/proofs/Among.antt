@@ -1,7 +1,7 @@
 -- Whether a number is among others, as the code asks for it.
-use Rattle.std.proofs.Common.{◌≡◌, ℕ, Bool, true, false, List, [], Option, Some, None, refl, sym, inl, inr}
-use Rattle.std.specs.Prelude.{Contains, IfNone, IfSome, is_some, slice_get}
-use Rattle.drum_order.proofs.Lists.{contains_from_get, contains_none}
+use Rattle.std.proofs.Common.{◌≡◌, ℕ, Bool, true, false, List, [], refl, sym, inl, inr}
+use Rattle.std.specs.Prelude.{Contains}
+use Rattle.drum_order.proofs.Lists.{contains_none}
 use Rattle.drum_flow.specs.Executed.{with_new}
 use Rattle.drum_flow.specs.Taken.{is_among}
 use Rattle.drum_flow.proofs.Orders.{any_contains, contains_any, with_new_has, with_new_only}

@@ -1,5 +1,5 @@
 -- The words that lack a list, as they are held, one finding more.
-use Rattle.std.proofs.Common.{◌≡◌, ℕ, ◌<◌, ◌≤◌, List, [], ◌∷◌, ◌++◌, map, length, get_or, set, refl, ap, sym, ◌∙◌, subst}
+use Rattle.std.proofs.Common.{◌≡◌, ℕ, ◌<◌, List, [], ◌∷◌, ◌++◌, map, length, get_or, set, refl, ap, sym, ◌∙◌}
 use Rattle.std.proofs.Common.{Some, arith}
 use Rattle.std.specs.Prelude.{slice_get, Option}
 use Rattle.std.specs.Option.{option_map}
@@ -7,8 +7,6 @@ use Rattle.std.proofs.lemmas.List.{length-map, map-set}
 use Rattle.std.proofs.lemmas.Option.{get_or_from_slice_get, slice_get-get_or, slice_get-map, slice_get_within}
 use Rattle.std.proofs.lemmas.Simd.{map-map}
 use Rattle.drum_core.specs.declared.location.Location.{Location}
-use Rattle.drum_order.specs.Graph.{AreDifferent}
-use Rattle.drum_flow.proofs.Founds.{few_locations, numbers}
 use Rattle.drum_finding.specs.declared.finding.Finding as held
 use Rattle.drum_finding.specs.declared.finding.Finding.TheVariants as finding
 use Rattle.drum_finding.specs.declared.unchanged_parts.UnchangedParts.{UnchangedParts}
@@ -18,7 +16,7 @@ use Rattle.drum_finding.specs.UnchangedParts.{both_keep}
 use Rattle.drum_finding.specs.declared.lacking.Lack.{Lack}
 use Rattle.drum_finding.specs.Lacking.{altered_word, kept_in, words_altered}
 use Rattle.drum_finding.specs.LackingOf.{pair_of}
-use Rattle.drum_finding.proofs.Words.{at_places, different, none_more, places, there_more}
+use Rattle.drum_finding.proofs.Words.{at_places, none_more, places, there_more}
 
 abbrev pub number_of : Lack → ℕ
 number_of lack = lack.word.number
@@ -57,20 +55,6 @@ lack_met before writer word kept left items k was at here is are =
     (is ∙ ap (λ (lack : ℕ × UnchangedParts). both_keep lack.1 kept) (sym read))
     ∙ there_more before writer word.number kept (map pair_of items) are k (pair_of was)
     (sym (ap (λ (ns : List ℕ). slice_get ns k) (same_places before items are)) ∙ at)
-
--- there are no more than locations
-pub few_words : (before : List Finding) (items : List Lack) → map pair_of items ≡ words_altered before
-    → length items ≤ 2004
-few_words before items are =
-    let locations : List Location = map (λ (lack : Lack). lack.word) items in
-    let same : numbers locations ≡ places before =
-    map-map (λ (location : Location). location.number) (λ (lack : Lack). lack.word) items ∙ same_places before items are in
-    omega (
-      arith,
-      few_locations locations (subst AreDifferent (sym same) (different before)),
-      length-map locations (λ (location : Location). location.number),
-      length-map items (λ (lack : Lack). lack.word),
-    )
 
 -- a finding that no word is altered
 tells_none : (one : held.Finding)

@@ -6,7 +6,6 @@ pub mod NamedFlags
 pub mod Namings
 pub mod Nothing
 pub mod Outsides
-pub mod Pasted
 pub mod Steps
 pub mod Whole
 pub mod Words

@@ -168,7 +168,7 @@ new_added xs x none = go (list_any (λ y. eqb y x) xs) refl
     go false e = ap (λ (b : Bool). cond b xs (xs ++ x ∷ [])) e
 
 -- none of them twice
-pub different : (before : List Finding) → AreDifferent (places before)
+different : (before : List Finding) → AreDifferent (places before)
 different before = with_new_different [] (flat_map altered_word before) tt
 
 module _ (before : List Finding) (finding : Finding) where

@@ -1,5 +1,3 @@
-ghost use Rattle.std.specs.Prelude.{◌≤◌, vec_len};
-
 use crate::finding::Finding;
 use crate::unchanged_parts::UnchangedParts;
 use drum_core::Location;
@@ -18,7 +16,6 @@ pub(crate) struct Lack {
 #[derive(Debug, Drop)]
 pub struct Lacking {
     pub(crate) words: Vec<Lack>,
-    ghost few: { vec_len words ≤ 2004 },
 }
 
 impl Lacking {

@@ -24,7 +24,7 @@
 //! `Outsides` on operations, `Fixeds` on words that are altered, `Namings` and `NamedFlags` on
 //! words that are named. `Adding` and `Whole` put lists of findings together, and `Nothing` is on
 //! lists in which nothing is; `drum_check` uses these too. `Words` and `Lacks` are on words that
-//! lack a list, and `Pasted` on how one is written.
+//! lack a list.
 #![tactic(auto)]
 
 mod altered;
@@ -52,6 +52,6 @@ pub use idle::idle_words;
 pub use lacking::Lacking;
 pub use lengths::are_long;
 pub use operations::operations_outside;
-pub use pasting::list_all;
+pub use pasting::put_all;
 pub use unchanged_parts::UnchangedParts;
 pub use within::Within;

@@ -1,180 +1,128 @@
 //! The lines of what was found.
 
-ghost use Rattle.std.specs.Prelude.{◌≡◌, ◌+◌, ◌^◌, ◌≤◌, ◌++◌, codes, decimal, IfOk, length, map};
+ghost use Rattle.std.specs.Prelude.{◌++◌, codes, decimal, map};
 ghost use Rattle.drum_core.specs.Numeral.{digits_of};
-ghost use Rattle.drum_lines.specs.Sent.{IsSent, failed_writes};
+ghost use Rattle.drum_sheet.specs.Stands.{Passes};
 ghost use Rattle.drum_finding.specs.FindingOf.{seen};
 ghost use Rattle.drum_finding.specs.FindingsText.{finding_text, findings_text};
 
 use crate::finding::Finding;
 use drum_core::Location;
 use drum_devices::Output;
-use drum_lines::{WriteFault, four_digits, send, two_digits};
+use drum_lines::{put_located, put_location, two_digits};
+use drum_sheet::Sheet;
 use drum_times::Edge;
-use itoa::Buffer;
 
-/// Writes a line of a name and a location.
-fn send_location<O: Output>(
+/// Puts a line of a name, a location and an operation.
+#[tactic(auto, using(drum_sheet::proofs::Passing::passing))]
+fn put_operation<O: Output>(
+    sheet: &mut Sheet,
     writer: &mut O,
-    sent: usize,
     name: &[u8],
     location: Location,
-) -> Result<usize, WriteFault>
-    requires called { O.called writer.old ≤ 2 ^ 62 + 2 ^ 60 }
-    requires few { sent ≤ 2 ^ 60 }
-    requires short { length name.now ≤ 20 }
-    ensures sent { IsSent (O.written writer.old) (O.written writer.new) sent result
-        (name.now ++ digits_of 4 location.number ++ codes "\n") }
-    ensures failures { O.failed writer.new ≡ O.failed writer.old + failed_writes result }
-    ensures calls { O.called writer.new ≤ O.called writer.old + 80 }
-    ensures few { IfOk result (λ total. total ≤ sent + 80) }
+    op: u8,
+)
+    ensures { Passes (O.device writer.old) sheet.old (O.device writer.new) sheet.new
+        (name.now ++ digits_of 4 location.number ++ codes " " ++ digits_of 2 op ++ codes "\n") }
 {
-    let digits = four_digits(location.number());
-    let pieces: [&[u8]; 3] = [name, &digits, b"\n"];
-    send(writer, sent, &pieces)
+    sheet.put(writer, name);
+    put_location(sheet, writer, location);
+    sheet.put(writer, b" ");
+    sheet.put(writer, &two_digits(op));
+    sheet.put(writer, b"\n");
 }
 
-/// Writes a line of a name, a location and the number behind it, of some digits.
-fn send_behind<O: Output>(
+/// Puts a line of a name and two locations.
+#[tactic(auto, using(drum_sheet::proofs::Passing::passing))]
+fn put_locations<O: Output>(
+    sheet: &mut Sheet,
     writer: &mut O,
-    sent: usize,
     name: &[u8],
-    location: Location,
-    behind: &[u8],
-) -> Result<usize, WriteFault>
-    requires called { O.called writer.old ≤ 2 ^ 62 + 2 ^ 60 }
-    requires few { sent ≤ 2 ^ 60 }
-    requires short { length name.now ≤ 20 }
-    requires digits { length behind.now ≤ 20 }
-    ensures sent { IsSent (O.written writer.old) (O.written writer.new) sent result
-        (name.now ++ digits_of 4 location.number ++ codes " " ++ behind.now ++ codes "\n") }
-    ensures failures { O.failed writer.new ≡ O.failed writer.old + failed_writes result }
-    ensures calls { O.called writer.new ≤ O.called writer.old + 80 }
-    ensures few { IfOk result (λ total. total ≤ sent + 80) }
+    first: Location,
+    second: Location,
+)
+    ensures { Passes (O.device writer.old) sheet.old (O.device writer.new) sheet.new
+        (name.now ++ digits_of 4 first.number ++ codes " " ++ digits_of 4 second.number
+        ++ codes "\n") }
 {
-    let digits = four_digits(location.number());
-    let pieces: [&[u8]; 5] = [name, &digits, b" ", behind, b"\n"];
-    send(writer, sent, &pieces)
+    sheet.put(writer, name);
+    put_location(sheet, writer, first);
+    sheet.put(writer, b" ");
+    put_location(sheet, writer, second);
+    sheet.put(writer, b"\n");
 }
 
-/// Writes a line of a name and a number.
-fn send_number<O: Output>(
-    writer: &mut O,
-    sent: usize,
-    name: &[u8],
-    number: u128,
-) -> Result<usize, WriteFault>
-    requires called { O.called writer.old ≤ 2 ^ 62 + 2 ^ 60 }
-    requires few { sent ≤ 2 ^ 60 }
-    requires short { length name.now ≤ 20 }
-    ensures sent { IsSent (O.written writer.old) (O.written writer.new) sent result
-        (name.now ++ decimal number ++ codes "\n") }
-    ensures failures { O.failed writer.new ≡ O.failed writer.old + failed_writes result }
-    ensures calls { O.called writer.new ≤ O.called writer.old + 80 }
-    ensures few { IfOk result (λ total. total ≤ sent + 80) }
-{
-    let mut buffer = Buffer::new();
-    let pieces: [&[u8]; 3] = [name, buffer.format(number).as_bytes(), b"\n"];
-    send(writer, sent, &pieces)
-}
-
-/// Writes a line of a name and two edges.
-fn send_edges<O: Output>(
-    writer: &mut O,
-    sent: usize,
-    name: &[u8],
-    first: Edge,
-    second: Edge,
-) -> Result<usize, WriteFault>
-    requires called { O.called writer.old ≤ 2 ^ 62 + 2 ^ 60 }
-    requires few { sent ≤ 2 ^ 60 }
-    requires short { length name.now ≤ 20 }
-    ensures sent { IsSent (O.written writer.old) (O.written writer.new) sent result
+/// Puts a line of a name and two edges.
+#[tactic(auto, using(drum_sheet::proofs::Passing::passing))]
+fn put_edges<O: Output>(sheet: &mut Sheet, writer: &mut O, name: &[u8], first: Edge, second: Edge)
+    ensures { Passes (O.device writer.old) sheet.old (O.device writer.new) sheet.new
         (name.now ++ digits_of 4 first.from.number ++ codes " " ++ digits_of 4 first.onto.number
         ++ codes " " ++ digits_of 4 second.from.number ++ codes " "
         ++ digits_of 4 second.onto.number ++ codes "\n") }
-    ensures failures { O.failed writer.new ≡ O.failed writer.old + failed_writes result }
-    ensures calls { O.called writer.new ≤ O.called writer.old + 80 }
-    ensures few { IfOk result (λ total. total ≤ sent + 80) }
 {
-    let from = four_digits(first.from.number());
-    let onto = four_digits(first.onto.number());
-    let other_from = four_digits(second.from.number());
-    let other_onto = four_digits(second.onto.number());
-    let pieces: [&[u8]; 9] = [
-        name,
-        &from,
-        b" ",
-        &onto,
-        b" ",
-        &other_from,
-        b" ",
-        &other_onto,
-        b"\n",
-    ];
-    send(writer, sent, &pieces)
+    sheet.put(writer, name);
+    put_location(sheet, writer, first.from);
+    sheet.put(writer, b" ");
+    put_location(sheet, writer, first.onto);
+    sheet.put(writer, b" ");
+    put_location(sheet, writer, second.from);
+    sheet.put(writer, b" ");
+    put_location(sheet, writer, second.onto);
+    sheet.put(writer, b"\n");
 }
 
-/// Writes the line of a finding where `sent` bytes have gone out before, and returns how many have
-/// gone out then.
-fn send_finding<O: Output>(
-    writer: &mut O,
-    sent: usize,
-    finding: &Finding,
-) -> Result<usize, WriteFault>
-    requires called { O.called writer.old ≤ 2 ^ 62 + 2 ^ 60 }
-    requires few { sent ≤ 2 ^ 60 }
-    ensures sent { IsSent (O.written writer.old) (O.written writer.new) sent result
+/// Puts the line of a product that is too large.
+#[tactic(auto, using(drum_sheet::proofs::Passing::passing))]
+fn put_product<O: Output>(sheet: &mut Sheet, writer: &mut O, product: u128)
+    ensures { Passes (O.device writer.old) sheet.old (O.device writer.new) sheet.new
+        (codes "toolarge " ++ decimal product ++ codes "\n") }
+{
+    sheet.put(writer, b"toolarge ");
+    sheet.put_number(writer, product);
+    sheet.put(writer, b"\n");
+}
+
+/// Puts the line of a finding.
+#[tactic(auto, using(drum_sheet::proofs::Passing::passing))]
+fn put_finding<O: Output>(sheet: &mut Sheet, writer: &mut O, finding: &Finding)
+    ensures { Passes (O.device writer.old) sheet.old (O.device writer.new) sheet.new
         (finding_text (seen finding.now)) }
-    ensures failures { O.failed writer.new ≡ O.failed writer.old + failed_writes result }
-    ensures calls { O.called writer.new ≤ O.called writer.old + 80 }
-    ensures few { IfOk result (λ total. total ≤ sent + 80) }
 {
     match *finding {
-        Finding::NotLoaded(location) => send_location(writer, sent, b"notloaded ", location),
-        Finding::NotInProfile(location, op) => {
-            send_behind(writer, sent, b"notinprofile ", location, &two_digits(op))
-        }
+        Finding::NotLoaded(location) => put_located(sheet, writer, b"notloaded ", location),
+        Finding::NotInProfile(location, op) => put_operation(
+            sheet,
+            writer,
+            b"notinprofile ",
+            location,
+            op,
+        ),
         Finding::Alters {
             writer: from,
             word,
             ..
-        } => {
-            let digits = four_digits(word.number());
-            send_behind(writer, sent, b"alters ", from, &digits)
-        }
-        Finding::TooLarge(product) => send_number(writer, sent, b"toolarge ", product),
-        Finding::Loop { edge, .. } => {
-            let digits = four_digits(edge.onto.number());
-            send_behind(writer, sent, b"loop ", edge.from, &digits)
-        }
+        } => put_locations(sheet, writer, b"alters ", from, word),
+        Finding::TooLarge(product) => put_product(sheet, writer, product),
+        Finding::Loop { edge, .. } => put_locations(sheet, writer, b"loop ", edge.from, edge.onto),
         Finding::UnusedMark(edge) => {
-            let digits = four_digits(edge.onto.number());
-            send_behind(writer, sent, b"unused mark ", edge.from, &digits)
+            put_locations(sheet, writer, b"unused mark ", edge.from, edge.onto);
         }
-        Finding::UnusedList(location) => send_location(writer, sent, b"unused list ", location),
+        Finding::UnusedList(location) => put_located(sheet, writer, b"unused list ", location),
         Finding::UnusedCall(edge) => {
-            let digits = four_digits(edge.onto.number());
-            send_behind(writer, sent, b"unused call ", edge.from, &digits)
+            put_locations(sheet, writer, b"unused call ", edge.from, edge.onto);
         }
-        Finding::Idle(location) => send_location(writer, sent, b"idle ", location),
-        Finding::Inside { inner, outer } => send_edges(writer, sent, b"inside ", inner, outer),
+        Finding::Idle(location) => put_located(sheet, writer, b"idle ", location),
+        Finding::Inside { inner, outer } => put_edges(sheet, writer, b"inside ", inner, outer),
     }
 }
 
-/// Writes the lines of what was found, and returns how many bytes have gone out then.
-pub fn send_findings<O: Output>(writer: &mut O, findings: &[Finding]) -> Result<usize, WriteFault>
-    requires most { length findings.now ≤ 16777216 }
-    requires called { O.called writer.old ≤ 2 ^ 62 }
-    ensures sent { IsSent (O.written writer.old) (O.written writer.new) 0 result
+/// Puts the lines of what was found.
+#[tactic(auto, using(drum_sheet::proofs::Passing::passing))]
+pub fn put_findings<O: Output>(sheet: &mut Sheet, writer: &mut O, findings: &[Finding])
+    ensures { Passes (O.device writer.old) sheet.old (O.device writer.new) sheet.new
         (findings_text (map seen findings.now)) }
-    ensures failures { O.failed writer.new ≡ O.failed writer.old + failed_writes result }
-    ensures calls { O.called writer.new ≤ O.called writer.old + 2 ^ 50 }
-    ensures few { IfOk result (λ total. total ≤ 2 ^ 50) }
 {
-    let mut sent = 0;
     for finding in findings {
-        sent = send_finding(writer, sent, finding)?;
+        put_finding(sheet, writer, finding);
     }
-    Ok(sent)
 }

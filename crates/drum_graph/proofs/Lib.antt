@@ -4,5 +4,4 @@ pub mod Outlines
 pub mod PatternOperations
 pub mod Stopping
 pub mod Taken
-pub mod Texts
 pub mod Words

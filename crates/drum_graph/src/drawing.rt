@@ -1,103 +1,73 @@
 //! A flow graph, written out in the language DOT.
 
-ghost use Rattle.std.specs.Prelude.{◌≡◌, ◌+◌, ◌^◌, ◌≤◌, ◌++◌, codes, IfOk, flat_map};
-ghost use Rattle.drum_core.specs.Numeral.{digits_of};
-ghost use Rattle.drum_lines.specs.Sent.{IsSent, IsWritten, failed_writes};
+ghost use Rattle.std.specs.Prelude.{flat_map};
+ghost use Rattle.drum_sheet.specs.Stands.{Passes};
 ghost use Rattle.drum_graph.specs.GraphOf.{edges_in, loops_in, node_of, nodes_in, start_of};
 ghost use Rattle.drum_graph.specs.GraphText.{graph_text, head_text, node_text};
 
-use crate::arrows::{send_edges, send_words};
-use crate::boxes::send_box;
+use crate::arrows::{put_edges, put_words};
+use crate::boxes::put_box;
 use crate::graph::Graph;
 use crate::loops::Loops;
 use crate::node::Node;
 use drum_core::Location;
 use drum_devices::Output;
-use drum_lines::{WriteFault, four_digits, send};
+use drum_lines::put_location;
+use drum_sheet::Sheet;
 use drum_times::Mark;
 
-/// Writes the beginning of a graph, with the arrow to the start, and returns how many bytes have
-/// gone out then.
-fn send_head<O: Output>(writer: &mut O, start: Location) -> Result<usize, WriteFault>
-    requires { O.called writer.old ≤ 2 ^ 62 }
-    ensures sent { IsSent (O.written writer.old) (O.written writer.new) 0 result
+/// Puts the beginning of a graph, with the arrow to the start.
+#[tactic(auto, using(drum_sheet::proofs::Passing::passing))]
+fn put_head<O: Output>(sheet: &mut Sheet, writer: &mut O, start: Location)
+    ensures { Passes (O.device writer.old) sheet.old (O.device writer.new) sheet.new
         (head_text start.number) }
-    ensures failures { O.failed writer.new ≡ O.failed writer.old + failed_writes result }
-    ensures calls { O.called writer.new ≤ O.called writer.old + 100 }
-    ensures few { IfOk result (λ total. total ≤ 100) }
 {
-    let digits = four_digits(start.number());
-    let pieces: [&[u8]; 3] = [
+    sheet.put(
+        writer,
         b"digraph deck {\nnode [shape=box]\nstart [shape=point]\nstart -> ",
-        &digits,
-        b"\n",
-    ];
-    send(writer, 0, &pieces)
+    );
+    put_location(sheet, writer, start);
+    sheet.put(writer, b"\n");
 }
 
-/// Writes the lines of an executed word: its box, and its arrows.
-fn send_node<O: Output>(
+/// Puts the lines of an executed word: its box, and its arrows.
+#[tactic(auto, using(drum_sheet::proofs::Passing::passing))]
+fn put_node<O: Output>(
+    sheet: &mut Sheet,
     writer: &mut O,
-    sent: usize,
     marks: &[Mark],
     loops: &Loops,
     node: &Node,
-) -> Result<usize, WriteFault>
-    requires called { O.called writer.old ≤ 2 ^ 62 + 2 ^ 32 }
-    requires few { sent ≤ 2 ^ 32 }
-    ensures sent { IsSent (O.written writer.old) (O.written writer.new) sent result
+)
+    ensures { Passes (O.device writer.old) sheet.old (O.device writer.new) sheet.new
         (node_text marks.now (edges_in loops.now) (node_of node.now)) }
-    ensures failures { O.failed writer.new ≡ O.failed writer.old + failed_writes result }
-    ensures calls { O.called writer.new ≤ O.called writer.old + 463000 }
-    ensures few { IfOk result (λ total. total ≤ sent + 463000) }
 {
-    let sent = send_box(writer, sent, node)?;
-    let sent = send_edges(writer, sent, marks, loops, node)?;
-    send_words(writer, sent, node.location, &node.written)
+    put_box(sheet, writer, node);
+    put_edges(sheet, writer, marks, loops, node);
+    put_words(sheet, writer, node.location, &node.written);
 }
 
-/// Writes the lines of all executed words.
-fn send_nodes<O: Output>(
-    writer: &mut O,
-    begun: usize,
-    marks: &[Mark],
-    graph: &Graph,
-) -> Result<usize, WriteFault>
-    requires called { O.called writer.old ≤ 2 ^ 62 + 100 }
-    requires few { begun ≤ 100 }
-    ensures sent { IsSent (O.written writer.old) (O.written writer.new) begun result
+/// Puts the lines of all executed words.
+#[tactic(auto, using(drum_sheet::proofs::Lines::lines))]
+fn put_nodes<O: Output>(sheet: &mut Sheet, writer: &mut O, marks: &[Mark], graph: &Graph)
+    ensures { Passes (O.device writer.old) sheet.old (O.device writer.new) sheet.new
         (flat_map (node_text marks.now (loops_in graph.now)) (nodes_in graph.now)) }
-    ensures failures { O.failed writer.new ≡ O.failed writer.old + failed_writes result }
-    ensures calls { O.called writer.new ≤ O.called writer.old + 928000000 }
-    ensures few { IfOk result (λ total. total ≤ begun + 928000000) }
 {
-    let mut sent = begun;
     for node in &graph.nodes {
-        sent = send_node(writer, sent, marks, &graph.loops, node)?;
+        put_node(sheet, writer, marks, &graph.loops, node);
     }
-    Ok(sent)
 }
 
-/// Writes a flow graph in the language DOT: for each executed word its box, an arrow to each
-/// location where its instructions go on, with the mark that stands on that edge, or red if the
-/// edge closes a loop, and a dotted one to each executed word that they write. It takes no memory.
-///
-/// # Errors
-///
-/// Where a write fails or takes no byte: then a prefix of the text has gone out, of as many bytes
-/// as the fault says.
-pub fn send_graph<O: Output>(
-    graph: &Graph,
-    marks: &[Mark],
-    writer: &mut O,
-) -> Result<(), WriteFault>
-    requires { O.called writer.old ≤ 2 ^ 62 }
-    ensures written { IsWritten (O.written writer.old) (O.written writer.new) result
+/// Puts a flow graph in the language DOT on a sheet: for each executed word its box, an arrow to
+/// each location where its instructions go on, with the mark that stands on that edge, or red if
+/// the edge closes a loop, and a dotted one to each executed word that they write. It takes no
+/// memory.
+#[tactic(auto, using(drum_sheet::proofs::Passing::passing))]
+pub fn put_graph<O: Output>(sheet: &mut Sheet, writer: &mut O, marks: &[Mark], graph: &Graph)
+    ensures { Passes (O.device writer.old) sheet.old (O.device writer.new) sheet.new
         (graph_text marks.now (loops_in graph.now) (start_of graph.now) (nodes_in graph.now)) }
-    ensures failures { O.failed writer.new ≡ O.failed writer.old + failed_writes result }
 {
-    let sent = send_head(writer, graph.start)?;
-    let sent = send_nodes(writer, sent, marks, graph)?;
-    send(writer, sent, &[b"}\n"])?;
-    Ok(())
+    put_head(sheet, writer, graph.start);
+    put_nodes(sheet, writer, marks, graph);
+    sheet.put(writer, b"}\n");
 }

@@ -1,5 +1,3 @@
-ghost use Rattle.std.specs.Prelude.{◌≤◌, vec_len};
-
 use crate::loops::Loops;
 use crate::node::Node;
 use crate::outline::boxes_of;
@@ -17,7 +15,6 @@ pub struct Graph {
     pub(crate) nodes: Vec<Node>,
     pub(crate) loops: Loops,
     pub(crate) start: Location,
-    ghost few: { vec_len nodes ≤ 2004 },
 }
 
 impl Graph {
@@ -36,10 +33,9 @@ impl Graph {
     fn nodes_of(alloc: Global, flow: &Flow<'_>) -> Result<Vec<Node>, AllocError>
         requires nodes { of_flow AreAllNodes flow.now (reached_in flow.now) }
         requires places { each_place (reached_in flow.now) ≡ executed_in flow.now }
-        ensures all { IfOk result (λ nodes. map node_of nodes.items
+        ensures { IfOk result (λ nodes. map node_of nodes.items
             ≡ map (node (loads_in flow.now.deck.now) flow.now.notes.now (reached_in flow.now))
             (executed_in flow.now)) }
-        ensures few { IfOk result (λ nodes. vec_len nodes ≤ 2004) }
     {
         let mut nodes = Vec::new(alloc);
         for location in flow.executed() {

@@ -10,16 +10,15 @@
 //! operations in the profile alone, `onward` are the locations where its instructions go on, and
 //! `written` the executed words that they write. A `node` is what is drawn as a box, `loops` are
 //! the edges that close loops, and `graph` is what is drawn of a deck; its `outline` has words that
-//! go straight on from one to the next as one box. `drawing` writes the graph out: `boxes` the line
-//! of a box, and `arrows` the lines of its arrows.
+//! go straight on from one to the next as one box. `drawing` puts the graph on a sheet: `boxes` the
+//! line of a box, and `arrows` the lines of its arrows.
 //!
 //! Definitions, in the order to read them: `Graph` is what is drawn of each executed location,
 //! `GraphText` its lines, `Outline` which words are one box, and `GraphOf` how all this is held.
 //!
 //! Proofs. There is a file for each part of a node (`Words` for what is written, with `Among`;
 //! `PatternOperations`; `Stopping`; `Taken` for where it goes on), `Nodes` for all of them, `Edges`
-//! for those that close loops, `Outlines` for words that are put into boxes, and `Texts` for the
-//! lines.
+//! for those that close loops, and `Outlines` for words that are put into boxes.
 #![tactic(auto)]
 
 mod arrows;
@@ -35,5 +34,5 @@ mod outline;
 mod stops;
 mod written;
 
-pub use drawing::send_graph;
+pub use drawing::put_graph;
 pub use graph::Graph;

@@ -1,5 +1,3 @@
-ghost use Rattle.std.specs.Prelude.{◌≤◌, vec_len};
-
 use crate::fitness::is_fit;
 use crate::onward::nexts_at;
 use crate::operations::operations_at;
@@ -26,7 +24,6 @@ pub(crate) struct Node {
     pub(crate) may_stop: bool,
     pub(crate) nexts: LocationSet,
     pub(crate) written: LocationSet,
-    ghost few: { vec_len operations ≤ 100 },
 }
 
 impl Node {

@@ -1,6 +1,6 @@
 //! The operations that are allowed at a location.
 
-ghost use Rattle.std.specs.Prelude.{◌≡◌, ◌≤◌, [], ◌∷◌, IfOk, OnOk, vec_len};
+ghost use Rattle.std.specs.Prelude.{◌≡◌, [], ◌∷◌, IfOk, OnOk};
 ghost use Rattle.drum_deck.specs.InDeck.{loads_in};
 ghost use Rattle.drum_flow.specs.Executed.{with_new};
 ghost use Rattle.drum_graph.specs.Graph as said;
@@ -22,16 +22,15 @@ fn add_operation(operations: &mut Vec<u8>, op: u8) -> Result<(), AllocError>
     Ok(())
 }
 
-/// The operations that are allowed at a location, each once, in order. There are 100 at most.
+/// The operations that are allowed at a location, each once, in order.
 pub fn operations_at(
     alloc: Global,
     deck: &Deck,
     notes: &Notes,
     location: Location,
 ) -> Result<Vec<u8>, AllocError>
-    ensures all { IfOk result (λ operations. operations.items
+    ensures { IfOk result (λ operations. operations.items
         ≡ said.operations (loads_in deck.now) notes.now location.number) }
-    ensures few { IfOk result (λ operations. vec_len operations ≤ 100) }
 {
     let mut operations = Vec::new(alloc);
     for pattern in Patterns::at(deck, notes, location) {

@@ -1,7 +1,7 @@
 //! The outline of a flow graph: words that go straight on from one to the next are one box.
 
-ghost use Rattle.std.specs.Prelude.{◌≡◌, ◌+◌, ◌≤◌, ◌<◌, ℕ, [], ◌∷◌, ◌++◌, false, true, map};
-ghost use Rattle.std.specs.Prelude.{if◌then◌else◌, slice_get, vec_len};
+ghost use Rattle.std.specs.Prelude.{◌≡◌, ◌<◌, ℕ, [], ◌∷◌, ◌++◌, false, true, map};
+ghost use Rattle.std.specs.Prelude.{if◌then◌else◌, slice_get};
 ghost use Rattle.std.specs.Prelude.{IfNone, IfOk, IfSome, OnOk, Some};
 ghost use Rattle.drum_graph.specs.declared.node.Node.{Node};
 ghost use Rattle.drum_graph.specs.Outline as said;
@@ -101,9 +101,8 @@ fn put_behind(
     boxes: &mut Vec<Node>,
     word: Node,
 ) -> Result<(), AllocError>
-    ensures put { OnOk result (map node_of boxes.new.items ≡ said.put_behind marks.now
+    ensures { OnOk result (map node_of boxes.new.items ≡ said.put_behind marks.now
         (edges_in loops.now) (map node_of boxes.old.items) (node_of word)) }
-    ensures few { OnOk result (vec_len boxes.new ≤ vec_len boxes.old + 1) }
 {
     match box_before(marks, loops, word.location, boxes) {
         Some(index) => boxes[index].join(word),
@@ -122,10 +121,9 @@ fn put(
     word: Node,
     follows: bool,
 ) -> Result<(), AllocError>
-    ensures put { OnOk result (map node_of boxes.new.items ≡ (if follows
+    ensures { OnOk result (map node_of boxes.new.items ≡ (if follows
         then said.put_behind marks.now (edges_in loops.now) (map node_of boxes.old.items)
         (node_of word) else (map node_of boxes.old.items ++ node_of word ∷ []))) }
-    ensures few { OnOk result (vec_len boxes.new ≤ vec_len boxes.old + 1) }
 {
     if follows {
         return put_behind(marks, loops, boxes, word);
@@ -142,9 +140,8 @@ pub(crate) fn boxes_of(
     start: Location,
     words: Vec<Node>,
 ) -> Result<Vec<Node>, AllocError>
-    ensures boxes { IfOk result (λ boxes. map node_of boxes.items ≡ said.outlined marks.now
+    ensures { IfOk result (λ boxes. map node_of boxes.items ≡ said.outlined marks.now
         (edges_in loops.now) start.number (map node_of words.items)) }
-    ensures few { IfOk result (λ boxes. vec_len boxes ≤ vec_len words) }
 {
     let follows = followers(alloc, start, &words)?;
     let mut boxes = Vec::new(alloc);

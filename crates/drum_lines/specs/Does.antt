@@ -3,7 +3,8 @@
 use Rattle.std.specs.Prelude.{None, Result, Ok, Err}
 use Rattle.drum_lines.specs.declared.fault.Fault.{Fault}
 use Rattle.drum_lines.specs.declared.status.Status.{Status}
-use Rattle.drum_lines.specs.Output.{Device, Tells}
+use Rattle.drum_devices.specs.Device.{Device}
+use Rattle.drum_lines.specs.Output.{Tells}
 use Rattle.drum_lines.specs.Reply.{IsLineOfFault, Reply}
 
 -- A reply of this kind, which is no fault's line, has gone out, and the program ends with this

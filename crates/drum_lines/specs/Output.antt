@@ -1,28 +1,10 @@
 -- What standard output and standard error get of a reply, and how the program ends.
-use Rattle.std.specs.Prelude.{◌≡◌, ℕ, ◌+◌, ◌<◌, List, length, take, Option, Result, Ok, Err, ◌⊎◌}
-use Rattle.std.specs.Io.KnownBytes.{Appends}
+use Rattle.std.specs.Prelude.{◌≡◌, ℕ, List, Result, Ok, Err, ◌⊎◌}
+use Rattle.drum_devices.specs.Device.{Device}
+use Rattle.drum_sheet.specs.Gets.{GetsAll, GetsPrefix}
 use Rattle.drum_lines.specs.declared.status.Status.{Status}
 use Rattle.drum_lines.specs.declared.status.Status.TheVariants.{Failed, Refused}
 use Rattle.drum_lines.specs.Reply.{Reply, says, complains, lists, breaks_off}
-
--- what a device was given, where that is known, and how many writes to it failed
-pub record Device : Type 0 where
-  pub written : Option (List ℕ)
-  pub failures : ℕ
-
-abbrev pub device : Option (List ℕ) → ℕ → Device
-device written failures = record { written = written; failures = failures }
-
--- it gets the whole text, and no write fails
-abbrev pub GetsAll : Device → Device → List ℕ → Type 0
-GetsAll before after text =
-    Appends before.written after.written text × (after.failures ≡ before.failures)
-
--- a write fails, and it has got a prefix of the text
-abbrev pub GetsPrefix : Device → Device → List ℕ → Type 0
-GetsPrefix before after text =
-    (count : ℕ) × (count < length text) × Appends before.written after.written (take count text)
-    × (after.failures ≡ before.failures + 1)
 
 -- of a complaint it gets all, or a prefix
 abbrev pub GetsComplaint : Device → Device → List ℕ → Type 0

@@ -12,11 +12,6 @@ IsSent before after sent (Err fault) text =
     (sent ≤ fault.sent) × (fault.sent < sent + length text)
     × Appends before after (take (fault.sent - sent) text)
 
--- by how much a write raises the failures of its output: by one exactly where it failed
-abbrev pub failed_writes : {A : Type 0} → Result A WriteFault → ℕ
-failed_writes (Ok done) = 0
-failed_writes (Err fault) = 1
-
 -- A text was written: all of it; or a write failed, and a prefix of it has gone out, of as many
 -- bytes as the fault says.
 abbrev pub IsWritten : {A : Type 0} → Option (List ℕ) → Option (List ℕ) → Result A WriteFault

@@ -1,10 +1,11 @@
-//! What goes out, line by line, with no memory.
+//! The parts of a line, each put on a sheet. They take no memory.
 
-ghost use Rattle.std.specs.Prelude.{◌≡◌, ◌+◌, ◌^◌, ◌≤◌, ◌++◌, length, codes, decimal};
-ghost use Rattle.drum_devices.specs.Device.{joined};
+ghost use Rattle.std.specs.Prelude.{◌≡◌, ◌+◌, ◌^◌, ◌≤◌, ◌++◌, length, codes};
+ghost use Rattle.drum_devices.specs.Device.{failures_after, joined};
 ghost use Rattle.drum_core.specs.Numeral.{digits_of};
+ghost use Rattle.drum_sheet.specs.Stands.{Passes};
 ghost use Rattle.drum_lines.specs.BoundText.{bound_text};
-ghost use Rattle.drum_lines.specs.Sent.{IsSent, IsWritten, failed_writes};
+ghost use Rattle.drum_lines.specs.Sent.{IsSent};
 
 mod deck_fault;
 pub mod fault_line;
@@ -17,51 +18,55 @@ pub mod verdict_line;
 
 use crate::failed_write::WriteFault;
 use drum_core::Location;
-use drum_devices::{Output, write_pieces, write_whole};
-use itoa::Buffer;
+use drum_devices::{Output, write_pieces};
+use drum_sheet::Sheet;
+use itoa::{Buffer, Integer};
 
-/// Writes the line of a bound, in word times.
-pub fn write_bound<O: Output>(output: &mut O, bound: u64) -> Result<(), WriteFault>
-    requires { O.called output.old ≤ 2 ^ 62 }
-    ensures written { IsWritten (O.written output.old) (O.written output.new) result
+/// Puts the line of a bound, in word times.
+pub fn put_bound<O: Output>(sheet: &mut Sheet, writer: &mut O, bound: u64)
+    ensures { Passes (O.device writer.old) sheet.old (O.device writer.new) sheet.new
         (bound_text bound) }
-    ensures failures { O.failed output.new ≡ O.failed output.old + failed_writes result }
 {
-    write_numbered(output, b"bound ", bound)
+    put_numbered(sheet, writer, b"bound ", bound);
 }
 
-/// Writes a text.
-pub fn write_text<O: Output>(output: &mut O, text: &[u8]) -> Result<(), WriteFault>
-    requires { O.called output.old + length text.now ≤ 2 ^ 63 }
-    ensures written { IsWritten (O.written output.old) (O.written output.new) result text.now }
-    ensures failures { O.failed output.new ≡ O.failed output.old + failed_writes result }
+/// Puts a location, in four digits.
+pub fn put_location<O: Output>(sheet: &mut Sheet, writer: &mut O, location: Location)
+    ensures { Passes (O.device writer.old) sheet.old (O.device writer.new) sheet.new
+        (digits_of 4 location.number) }
 {
-    match write_whole(output, text) {
-        Ok(()) => Ok(()),
-        Err(unsent) => Err(WriteFault { sent: unsent.sent }),
-    }
+    sheet.put(writer, &four_digits(location.number()));
 }
 
-/// Writes the pieces of a line.
-fn write_line<O: Output>(output: &mut O, pieces: &[&[u8]]) -> Result<(), WriteFault>
-    requires { O.called output.old + length (joined pieces.now) ≤ 2 ^ 63 }
-    ensures written { IsWritten (O.written output.old) (O.written output.new) result
-        (joined pieces.now) }
-    ensures failures { O.failed output.new ≡ O.failed output.old + failed_writes result }
+/// Puts a line of a text and a number.
+#[tactic(auto, using(drum_sheet::proofs::Passing::passing))]
+fn put_numbered<O: Output, I: Integer>(sheet: &mut Sheet, writer: &mut O, text: &[u8], number: I)
+    ensures { Passes (O.device writer.old) sheet.old (O.device writer.new) sheet.new
+        (text.now ++ I.text number ++ codes "\n") }
 {
-    match write_pieces(output, pieces) {
-        Ok(_) => Ok(()),
-        Err(unsent) => Err(WriteFault { sent: unsent.sent }),
-    }
+    sheet.put(writer, text);
+    sheet.put_number(writer, number);
+    sheet.put(writer, b"\n");
+}
+
+/// Puts a line of a text and a location.
+#[tactic(auto, using(drum_sheet::proofs::Passing::passing))]
+pub fn put_located<O: Output>(sheet: &mut Sheet, writer: &mut O, text: &[u8], location: Location)
+    ensures { Passes (O.device writer.old) sheet.old (O.device writer.new) sheet.new
+        (text.now ++ digits_of 4 location.number ++ codes "\n") }
+{
+    sheet.put(writer, text);
+    put_location(sheet, writer, location);
+    sheet.put(writer, b"\n");
 }
 
 /// Writes pieces where `sent` bytes have gone out before, and returns how many have gone out then.
 pub fn send<O: Output>(output: &mut O, sent: usize, pieces: &[&[u8]]) -> Result<usize, WriteFault>
-    requires called { O.called output.old + length (joined pieces.now) ≤ 2 ^ 63 }
-    requires few { sent + length (joined pieces.now) ≤ 2 ^ 63 }
-    ensures sent { IsSent (O.written output.old) (O.written output.new) sent result
+    requires { sent + length (joined pieces.now) ≤ 2 ^ 63 }
+    ensures sent { IsSent (O.device output.old).written (O.device output.new).written sent result
         (joined pieces.now) }
-    ensures failures { O.failed output.new ≡ O.failed output.old + failed_writes result }
+    ensures failures { (O.device output.new).failures
+        ≡ failures_after result (O.device output.old).failures }
     ensures calls { O.called output.new ≤ O.called output.old + length (joined pieces.now) }
 {
     match write_pieces(output, pieces) {
@@ -75,46 +80,16 @@ pub fn send<O: Output>(output: &mut O, sent: usize, pieces: &[&[u8]]) -> Result<
 /// Writes the line of a bound where `sent` bytes have gone out before, and returns how many have
 /// gone out then.
 pub fn send_bound<O: Output>(output: &mut O, sent: usize, bound: u64) -> Result<usize, WriteFault>
-    requires called { O.called output.old ≤ 2 ^ 62 + 2 ^ 40 }
-    requires few { sent ≤ 2 ^ 40 }
-    ensures sent { IsSent (O.written output.old) (O.written output.new) sent result
+    requires { sent ≤ 2 ^ 40 }
+    ensures sent { IsSent (O.device output.old).written (O.device output.new).written sent result
         (bound_text bound) }
-    ensures failures { O.failed output.new ≡ O.failed output.old + failed_writes result }
+    ensures failures { (O.device output.new).failures
+        ≡ failures_after result (O.device output.old).failures }
     ensures calls { O.called output.new ≤ O.called output.old + 120 }
 {
     let mut number = Buffer::new();
     let pieces: [&[u8]; 3] = [b"bound ", number.format(bound).as_bytes(), b"\n"];
     send(output, sent, &pieces)
-}
-
-/// Writes a line of a text and a number.
-fn write_numbered<O: Output>(output: &mut O, text: &[u8], number: u64) -> Result<(), WriteFault>
-    requires called { O.called output.old ≤ 2 ^ 62 }
-    requires short { length text.now ≤ 100 }
-    ensures written { IsWritten (O.written output.old) (O.written output.new) result
-        (text.now ++ decimal number ++ codes "\n") }
-    ensures failures { O.failed output.new ≡ O.failed output.old + failed_writes result }
-{
-    let mut buffer = Buffer::new();
-    let pieces: [&[u8]; 3] = [text, buffer.format(number).as_bytes(), b"\n"];
-    write_line(output, &pieces)
-}
-
-/// Writes a line of a text and a location.
-fn write_located<O: Output>(
-    output: &mut O,
-    text: &[u8],
-    location: Location,
-) -> Result<(), WriteFault>
-    requires called { O.called output.old ≤ 2 ^ 62 }
-    requires short { length text.now ≤ 100 }
-    ensures written { IsWritten (O.written output.old) (O.written output.new) result
-        (text.now ++ digits_of 4 location.number ++ codes "\n") }
-    ensures failures { O.failed output.new ≡ O.failed output.old + failed_writes result }
-{
-    let digits = four_digits(location.number());
-    let pieces: [&[u8]; 3] = [text, &digits, b"\n"];
-    write_line(output, &pieces)
 }
 
 /// The four decimal digits of a number.

@@ -1,22 +1,45 @@
 //! A reply, written to the output that it is for, and the status after it.
 
-ghost use Rattle.std.specs.Prelude.{◌≡◌, ◌+◌, ◌^◌, ◌≤◌, length};
+ghost use Rattle.std.specs.Prelude.{◌≡◌, ℕ, List};
+ghost use Rattle.drum_devices.specs.Device.{Device};
+ghost use Rattle.drum_sheet.specs.Stands.{Stands};
 ghost use Rattle.drum_lines.specs.BoundText.{bound_text};
 ghost use Rattle.drum_lines.specs.FaultStatus.{status_after};
 ghost use Rattle.drum_lines.specs.FaultText.{fault_text};
-ghost use Rattle.drum_lines.specs.Output.{GetsComplaint, GetsResult, device, ended_with};
+ghost use Rattle.drum_lines.specs.Output.{GetsComplaint, GetsResult, ended_with};
 ghost use Rattle.drum_lines.specs.Status.{status_of};
 ghost use Rattle.drum_lines.specs.VerdictText.{verdict_text};
 
 use crate::failed_write::WriteFault;
 use crate::fault::Fault;
 use crate::limit::Limit;
-use crate::print::fault_line::write_fault;
-use crate::print::verdict_line::write_verdict;
-use crate::print::{write_bound, write_text};
+use crate::print::fault_line::put_fault;
+use crate::print::put_bound;
+use crate::print::verdict_line::put_verdict;
 use crate::status::Status;
 use drum_devices::Output;
 use drum_machine::Verdict;
+use drum_sheet::Sheet;
+
+/// Writes what is still held back of a result, and tells how the program ends: so, or by a write
+/// that failed.
+pub fn end_result<O: Output>(sheet: Sheet, out: &mut O, done: Status) -> Status
+    ensures { (begun : Device) (text : List ℕ) → Stands begun (O.device out.old) sheet text
+        → GetsResult begun (O.device out.new) text done result }
+{
+    match sheet.finish(out) {
+        Ok(()) => done,
+        Err(_) => Status::Failed,
+    }
+}
+
+/// Writes what is still held back of a complaint: a write that fails changes nothing.
+fn end_complaint<E: Output>(sheet: Sheet, err: &mut E)
+    ensures { (begun : Device) (text : List ℕ) → Stands begun (E.device err.old) sheet text
+        → GetsComplaint begun (E.device err.new) text }
+{
+    let _ = sheet.finish(err);
+}
 
 /// How the program ends once a result was written.
 pub fn ended(written: Result<(), WriteFault>, done: Status) -> Status
@@ -30,40 +53,39 @@ pub fn ended(written: Result<(), WriteFault>, done: Status) -> Status
 
 /// Writes a bound.
 pub fn tell_bound<O: Output>(out: &mut O, bound: u64) -> Status
-    requires { O.called out.old ≤ 2 ^ 62 }
-    ensures { GetsResult (device (O.written out.old) (O.failed out.old))
-        (device (O.written out.new) (O.failed out.new)) (bound_text bound) Status.Done result }
+    ensures { GetsResult (O.device out.old) (O.device out.new) (bound_text bound) Status.Done
+        result }
 {
-    ended(write_bound(out, bound), Status::Done)
+    let mut sheet = Sheet::new();
+    put_bound(&mut sheet, out, bound);
+    end_result(sheet, out, Status::Done)
 }
 
 /// Writes a verdict on a run whose word times are limited so.
 pub fn tell_verdict<O: Output>(out: &mut O, limit: Limit, verdict: &Verdict) -> Status
-    requires { O.called out.old ≤ 2 ^ 62 + 2 ^ 60 }
-    ensures { GetsResult (device (O.written out.old) (O.failed out.old))
-        (device (O.written out.new) (O.failed out.new)) (verdict_text limit verdict.now)
+    ensures { GetsResult (O.device out.old) (O.device out.new) (verdict_text limit verdict.now)
         (status_of verdict.now) result }
 {
-    ended(write_verdict(out, limit, verdict), Status::after(verdict))
+    let mut sheet = Sheet::new();
+    put_verdict(&mut sheet, out, limit, verdict);
+    end_result(sheet, out, Status::after(verdict))
 }
 
 /// Writes the line of a fault, and tells how the program ends after it: a write that fails changes
 /// nothing.
 pub fn tell_fault<E: Output>(err: &mut E, fault: &Fault) -> Status
-    requires { E.called err.old ≤ 2 ^ 62 }
-    ensures line { GetsComplaint (device (E.written err.old) (E.failed err.old))
-        (device (E.written err.new) (E.failed err.new)) (fault_text fault.now) }
+    ensures line { GetsComplaint (E.device err.old) (E.device err.new) (fault_text fault.now) }
     ensures status { result ≡ status_after fault.now }
 {
-    let _ = write_fault(err, fault);
+    let mut sheet = Sheet::new();
+    put_fault(&mut sheet, err, fault);
+    end_complaint(sheet, err);
     fault.status()
 }
 
 /// As [`tell_fault`], and the fault is dropped.
 pub fn complain<E: Output>(err: &mut E, fault: Fault) -> Status
-    requires { E.called err.old ≤ 2 ^ 62 }
-    ensures line { GetsComplaint (device (E.written err.old) (E.failed err.old))
-        (device (E.written err.new) (E.failed err.new)) (fault_text fault) }
+    ensures line { GetsComplaint (E.device err.old) (E.device err.new) (fault_text fault) }
     ensures status { result ≡ status_after fault }
 {
     tell_fault(err, &fault)
@@ -71,34 +93,36 @@ pub fn complain<E: Output>(err: &mut E, fault: Fault) -> Status
 
 /// Writes a text that is a result.
 pub fn tell_text<O: Output>(out: &mut O, text: &[u8]) -> Status
-    requires out { O.called out.old ≤ 2 ^ 62 }
-    requires short { length text.now ≤ 2 ^ 61 }
-    ensures { GetsResult (device (O.written out.old) (O.failed out.old))
-        (device (O.written out.new) (O.failed out.new)) text.now Status.Done result }
+    ensures { GetsResult (O.device out.old) (O.device out.new) text.now Status.Done result }
 {
-    ended(write_text(out, text), Status::Done)
+    let mut sheet = Sheet::new();
+    sheet.put(out, text);
+    end_result(sheet, out, Status::Done)
+}
+
+/// Writes a text that is a complaint.
+fn tell_complaint<E: Output>(err: &mut E, text: &[u8])
+    ensures { GetsComplaint (E.device err.old) (E.device err.new) text.now }
+{
+    let mut sheet = Sheet::new();
+    sheet.put(err, text);
+    end_complaint(sheet, err);
 }
 
 /// Writes what is wrong with the command line: a write that fails changes nothing.
 pub fn tell_usage<E: Output>(err: &mut E, text: &[u8]) -> Status
-    requires err { E.called err.old ≤ 2 ^ 62 }
-    requires short { length text.now ≤ 2 ^ 61 }
-    ensures text { GetsComplaint (device (E.written err.old) (E.failed err.old))
-        (device (E.written err.new) (E.failed err.new)) text.now }
+    ensures text { GetsComplaint (E.device err.old) (E.device err.new) text.now }
     ensures status { result ≡ Status.Usage }
 {
-    let _ = write_text(err, text);
+    tell_complaint(err, text);
     Status::Usage
 }
 
 /// Writes the lines of all faults of texts: a write that fails changes nothing.
 pub fn tell_faults<E: Output>(err: &mut E, lines: &[u8]) -> Status
-    requires err { E.called err.old ≤ 2 ^ 62 }
-    requires short { length lines.now ≤ 2 ^ 61 }
-    ensures lines { GetsComplaint (device (E.written err.old) (E.failed err.old))
-        (device (E.written err.new) (E.failed err.new)) lines.now }
+    ensures lines { GetsComplaint (E.device err.old) (E.device err.new) lines.now }
     ensures status { result ≡ Status.Refused }
 {
-    let _ = write_text(err, lines);
+    tell_complaint(err, lines);
     Status::Refused
 }

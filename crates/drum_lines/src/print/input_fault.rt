@@ -1,33 +1,26 @@
-ghost use Rattle.std.specs.Prelude.{◌≡◌, ◌+◌, ◌^◌, ◌≤◌};
+ghost use Rattle.drum_sheet.specs.Stands.{Passes};
 ghost use Rattle.drum_lines.specs.FaultText.{input_text};
-ghost use Rattle.drum_lines.specs.Sent.{IsWritten, failed_writes};
 
-use super::{write_numbered, write_text};
-use crate::failed_write::WriteFault;
+use super::put_numbered;
 use drum_devices::Output;
 use drum_inputs::InputFault;
+use drum_sheet::Sheet;
 
-/// Writes the line of a fault of the inputs.
-pub fn write_input_fault<O: Output>(output: &mut O, fault: &InputFault) -> Result<(), WriteFault>
-    requires { O.called output.old ≤ 2 ^ 62 }
-    ensures written { IsWritten (O.written output.old) (O.written output.new) result
+/// Puts the line of a fault of the inputs.
+pub fn put_input_fault<O: Output>(sheet: &mut Sheet, writer: &mut O, fault: &InputFault)
+    ensures { Passes (O.device writer.old) sheet.old (O.device writer.new) sheet.new
         (input_text fault.now) }
-    ensures failures { O.failed output.new ≡ O.failed output.old + failed_writes result }
 {
     match *fault {
-        InputFault::Read => write_text(output, b"fault 41 inputs read\n"),
-        InputFault::Memory => write_text(output, b"fault 42 inputs memory\n"),
-        InputFault::Line(line) => write_numbered(output, b"fault 43 inputs line ", u64::from(line)),
-        InputFault::Repeated(line) => write_numbered(
-            output,
-            b"fault 44 inputs repeated ",
-            u64::from(line),
-        ),
-        InputFault::PastDrum(line) => write_numbered(
-            output,
-            b"fault 45 inputs pastdrum ",
-            u64::from(line),
-        ),
-        InputFault::TooLong => write_text(output, b"fault 46 inputs toolong\n"),
+        InputFault::Read => sheet.put(writer, b"fault 41 inputs read\n"),
+        InputFault::Memory => sheet.put(writer, b"fault 42 inputs memory\n"),
+        InputFault::Line(line) => put_numbered(sheet, writer, b"fault 43 inputs line ", line),
+        InputFault::Repeated(line) => {
+            put_numbered(sheet, writer, b"fault 44 inputs repeated ", line)
+        }
+        InputFault::PastDrum(line) => {
+            put_numbered(sheet, writer, b"fault 45 inputs pastdrum ", line)
+        }
+        InputFault::TooLong => sheet.put(writer, b"fault 46 inputs toolong\n"),
     }
 }

@@ -1,86 +1,79 @@
 //! The line of a fault in the timing table or in the notes.
 
-ghost use Rattle.std.specs.Prelude.{◌≡◌, ◌+◌, ◌^◌, ◌≤◌, ◌++◌, codes, length, string_bytes};
-ghost use Rattle.drum_times.specs.declared.fault.NoteFault.TheVariants.{TwoMarks};
+ghost use Rattle.std.specs.Prelude.{◌++◌, codes, string_bytes};
+ghost use Rattle.drum_sheet.specs.Stands.{Passes};
+ghost use Rattle.drum_times.specs.declared.fault.NoteFault.TheVariants.{TwoLists, TwoMarks};
 ghost use Rattle.drum_lines.specs.FaultText.{note_text, part_name};
-ghost use Rattle.drum_lines.specs.Sent.{IsWritten, failed_writes};
 
-use super::part_fault::name_of;
-use super::{four_digits, write_line};
-use crate::failed_write::WriteFault;
+use super::part_fault::put_part;
+use super::put_location;
 use crate::part::Part;
 use drum_core::Location;
 use drum_devices::Output;
+use drum_sheet::Sheet;
 use drum_times::{KeyPath, NoteFault};
 
-/// Writes the line of a fault of this part, which is the timing table or the notes.
-pub fn write_note_fault<O: Output>(
-    output: &mut O,
-    part: Part,
-    fault: &NoteFault,
-) -> Result<(), WriteFault>
-    requires { O.called output.old ≤ 2 ^ 62 }
-    ensures written { IsWritten (O.written output.old) (O.written output.new) result
+/// Puts the line of a fault of this part, which is the timing table or the notes.
+pub fn put_note_fault<O: Output>(sheet: &mut Sheet, writer: &mut O, part: Part, fault: &NoteFault)
+    ensures { Passes (O.device writer.old) sheet.old (O.device writer.new) sheet.new
         (note_text (part_name part) fault.now) }
-    ensures failures { O.failed output.new ≡ O.failed output.old + failed_writes result }
 {
     match fault {
-        NoteFault::Toml => {
-            let pieces: [&[u8]; 3] = [b"fault 11 ", name_of(part), b" toml\n"];
-            write_line(output, &pieces)
-        }
-        NoteFault::Memory => {
-            let pieces: [&[u8]; 3] = [b"fault 12 ", name_of(part), b" memory\n"];
-            write_line(output, &pieces)
-        }
-        NoteFault::Missing(key) => write_key(output, b"fault 13 ", part, b" missing ", key),
-        NoteFault::Unknown(key) => write_key(output, b"fault 14 ", part, b" unknown ", key),
-        NoteFault::Range(key) => write_key(output, b"fault 15 ", part, b" range ", key),
-        NoteFault::Kind(key) => write_key(output, b"fault 16 ", part, b" kind ", key),
-        NoteFault::TwoMarks(from, onto) => write_two_marks(output, part, *from, *onto),
-        NoteFault::TwoLists(location) => {
-            let digits = four_digits(location.number());
-            let pieces: [&[u8]; 5] = [b"fault 18 ", name_of(part), b" twolists ", &digits, b"\n"];
-            write_line(output, &pieces)
-        }
+        NoteFault::Toml => put_part(sheet, writer, b"fault 11 ", part, b" toml\n"),
+        NoteFault::Memory => put_part(sheet, writer, b"fault 12 ", part, b" memory\n"),
+        NoteFault::Missing(key) => put_key(sheet, writer, b"fault 13 ", part, b" missing ", key),
+        NoteFault::Unknown(key) => put_key(sheet, writer, b"fault 14 ", part, b" unknown ", key),
+        NoteFault::Range(key) => put_key(sheet, writer, b"fault 15 ", part, b" range ", key),
+        NoteFault::Kind(key) => put_key(sheet, writer, b"fault 16 ", part, b" kind ", key),
+        NoteFault::TwoMarks(from, onto) => put_two_marks(sheet, writer, part, *from, *onto),
+        NoteFault::TwoLists(location) => put_two_lists(sheet, writer, part, *location),
     }
 }
 
-/// Writes a line of a text, the name of a part, another text and a key.
-fn write_key<'a, O: Output>(
-    output: &mut O,
-    begin: &'a [u8],
+/// Puts a line of a text, the name of a part, another text and a key.
+#[tactic(auto, using(drum_sheet::proofs::Passing::passing))]
+fn put_key<O: Output>(
+    sheet: &mut Sheet,
+    writer: &mut O,
+    begin: &[u8],
     part: Part,
-    middle: &'a [u8],
-    key: &'a KeyPath,
-) -> Result<(), WriteFault>
-    requires called { O.called output.old ≤ 2 ^ 62 }
-    requires begin { length begin.now ≤ 100 }
-    requires middle { length middle.now ≤ 100 }
-    ensures written { IsWritten (O.written output.old) (O.written output.new) result
+    middle: &[u8],
+    key: &KeyPath,
+)
+    ensures { Passes (O.device writer.old) sheet.old (O.device writer.new) sheet.new
         (begin.now ++ part_name part ++ middle.now ++ string_bytes key.now.text ++ codes "\n") }
-    ensures failures { O.failed output.new ≡ O.failed output.old + failed_writes result }
 {
-    let name: &'a [u8] = name_of(part);
-    let pieces: [&'a [u8]; 5] = [begin, name, middle, key.as_bytes(), b"\n"];
-    write_line(output, &pieces)
+    put_part(sheet, writer, begin, part, middle);
+    sheet.put(writer, key.as_bytes());
+    sheet.put(writer, b"\n");
 }
 
-/// Writes the line of two marks on one edge.
-fn write_two_marks<O: Output>(
-    output: &mut O,
+/// Puts the line of two marks on one edge.
+#[tactic(auto, using(drum_sheet::proofs::Passing::passing))]
+fn put_two_marks<O: Output>(
+    sheet: &mut Sheet,
+    writer: &mut O,
     part: Part,
     from: Location,
     onto: Location,
-) -> Result<(), WriteFault>
-    requires { O.called output.old ≤ 2 ^ 62 }
-    ensures written { IsWritten (O.written output.old) (O.written output.new) result
+)
+    ensures { Passes (O.device writer.old) sheet.old (O.device writer.new) sheet.new
         (note_text (part_name part) (TwoMarks from onto)) }
-    ensures failures { O.failed output.new ≡ O.failed output.old + failed_writes result }
 {
-    let from = four_digits(from.number());
-    let onto = four_digits(onto.number());
-    let name = name_of(part);
-    let pieces: [&[u8]; 7] = [b"fault 17 ", name, b" twomarks ", &from, b" ", &onto, b"\n"];
-    write_line(output, &pieces)
+    put_part(sheet, writer, b"fault 17 ", part, b" twomarks ");
+    put_location(sheet, writer, from);
+    sheet.put(writer, b" ");
+    put_location(sheet, writer, onto);
+    sheet.put(writer, b"\n");
+}
+
+/// Puts the line of two lists for one location.
+#[tactic(auto, using(drum_sheet::proofs::Passing::passing))]
+fn put_two_lists<O: Output>(sheet: &mut Sheet, writer: &mut O, part: Part, location: Location)
+    ensures { Passes (O.device writer.old) sheet.old (O.device writer.new) sheet.new
+        (note_text (part_name part) (TwoLists location)) }
+{
+    put_part(sheet, writer, b"fault 18 ", part, b" twolists ");
+    put_location(sheet, writer, location);
+    sheet.put(writer, b"\n");
 }

@@ -1,18 +1,16 @@
 //! The line of a part that can't be had.
 
-ghost use Rattle.std.specs.Prelude.{◌≡◌, ◌+◌, ◌^◌, ◌≤◌, length};
+ghost use Rattle.std.specs.Prelude.{◌≡◌, ◌++◌};
+ghost use Rattle.drum_sheet.specs.Stands.{Passes};
 ghost use Rattle.drum_lines.specs.FaultText.{part_name, part_text};
-ghost use Rattle.drum_lines.specs.Sent.{IsWritten, failed_writes};
 
-use super::write_line;
-use crate::failed_write::WriteFault;
 use crate::part::{Part, PartFault};
 use drum_devices::Output;
+use drum_sheet::Sheet;
 
 /// What a part is called in the lines of faults.
-pub fn name_of(part: Part) -> &'static [u8]
-    ensures name { result.now ≡ part_name part }
-    ensures short { length result.now ≤ 6 }
+fn name_of(part: Part) -> &'static [u8]
+    ensures { result.now ≡ part_name part }
 {
     match part {
         Part::Joined => b"input",
@@ -23,30 +21,25 @@ pub fn name_of(part: Part) -> &'static [u8]
     }
 }
 
-/// Writes the line of a part whose bytes can't be had.
-pub fn write_part_fault<O: Output>(
-    output: &mut O,
-    part: Part,
-    fault: PartFault,
-) -> Result<(), WriteFault>
-    requires { O.called output.old ≤ 2 ^ 62 }
-    ensures written { IsWritten (O.written output.old) (O.written output.new) result
-        (part_text (part_name part) fault) }
-    ensures failures { O.failed output.new ≡ O.failed output.old + failed_writes result }
+/// Puts a text, the name of a part, and another text.
+#[tactic(auto, using(drum_sheet::proofs::Passing::passing))]
+pub fn put_part<O: Output>(sheet: &mut Sheet, writer: &mut O, begin: &[u8], part: Part, end: &[u8])
+    ensures { Passes (O.device writer.old) sheet.old (O.device writer.new) sheet.new
+        (begin.now ++ part_name part ++ end.now) }
 {
-    let name = name_of(part);
+    sheet.put(writer, begin);
+    sheet.put(writer, name_of(part));
+    sheet.put(writer, end);
+}
+
+/// Puts the line of a part whose bytes can't be had.
+pub fn put_part_fault<O: Output>(sheet: &mut Sheet, writer: &mut O, part: Part, fault: PartFault)
+    ensures { Passes (O.device writer.old) sheet.old (O.device writer.new) sheet.new
+        (part_text (part_name part) fault) }
+{
     match fault {
-        PartFault::Open => {
-            let pieces: [&[u8]; 3] = [b"fault 52 ", name, b" open\n"];
-            write_line(output, &pieces)
-        }
-        PartFault::Read => {
-            let pieces: [&[u8]; 3] = [b"fault 52 ", name, b" read\n"];
-            write_line(output, &pieces)
-        }
-        PartFault::TooLong => {
-            let pieces: [&[u8]; 3] = [b"fault 52 ", name, b" toolong\n"];
-            write_line(output, &pieces)
-        }
+        PartFault::Open => put_part(sheet, writer, b"fault 52 ", part, b" open\n"),
+        PartFault::Read => put_part(sheet, writer, b"fault 52 ", part, b" read\n"),
+        PartFault::TooLong => put_part(sheet, writer, b"fault 52 ", part, b" toolong\n"),
     }
 }

@@ -1,69 +1,55 @@
 //! The line of a replay's verdict.
 
-ghost use Rattle.std.specs.Prelude.{◌≡◌, ◌+◌, ◌^◌, ◌≤◌, ◌++◌, codes, decimal, length};
-ghost use Rattle.drum_core.specs.Word.{spelling};
-ghost use Rattle.drum_machine.specs.declared.left.Left.TheVariants.{Unlisted};
+ghost use Rattle.std.specs.Prelude.{◌≡◌, ◌++◌, codes, decimal};
 ghost use Rattle.drum_core.specs.Numeral.{digits_of};
-ghost use Rattle.drum_lines.specs.Sent.{IsWritten, failed_writes};
+ghost use Rattle.drum_core.specs.Word.{spelling};
+ghost use Rattle.drum_sheet.specs.Stands.{Passes};
+ghost use Rattle.drum_machine.specs.declared.left.Left.TheVariants.{Unlisted};
 ghost use Rattle.drum_machine.specs.declared.verdict.Verdict.TheVariants.{Kept};
 ghost use Rattle.drum_lines.specs.VerdictText.{left_text, limit_name, verdict_text, why_name};
 
-use super::{four_digits, write_line};
-use crate::failed_write::WriteFault;
+use super::put_location;
 use crate::limit::Limit;
 use drum_core::{Location, Word};
 use drum_devices::Output;
 use drum_machine::{Left, Verdict, Why};
-use itoa::Buffer;
+use drum_sheet::Sheet;
 
-/// Writes the line of a verdict on a run, whose word times are limited in this way.
-pub fn write_verdict<O: Output>(
-    output: &mut O,
-    limit: Limit,
-    verdict: &Verdict,
-) -> Result<(), WriteFault>
-    requires { O.called output.old ≤ 2 ^ 62 + 2 ^ 60 }
-    ensures written { IsWritten (O.written output.old) (O.written output.new) result
+/// Puts the line of a verdict on a run, whose word times are limited in this way.
+pub fn put_verdict<O: Output>(sheet: &mut Sheet, writer: &mut O, limit: Limit, verdict: &Verdict)
+    ensures { Passes (O.device writer.old) sheet.old (O.device writer.new) sheet.new
         (verdict_text limit verdict.now) }
-    ensures failures { O.failed output.new ≡ O.failed output.old + failed_writes result }
 {
     match *verdict {
-        Verdict::Kept { used, bound, why } => write_kept(output, limit, used, bound, why),
-        Verdict::Left { what, step, used } => write_left(output, what, step, used),
+        Verdict::Kept { used, bound, why } => put_kept(sheet, writer, limit, used, bound, why),
+        Verdict::Left { what, step, used } => put_left(sheet, writer, what, step, used),
     }
 }
 
-/// Writes the line of a run that keeps to the notes.
-fn write_kept<O: Output>(
-    output: &mut O,
+/// Puts the line of a run that keeps to the notes.
+fn put_kept<O: Output>(
+    sheet: &mut Sheet,
+    writer: &mut O,
     limit: Limit,
     used: u64,
     bound: u64,
     why: Why,
-) -> Result<(), WriteFault>
-    requires { O.called output.old ≤ 2 ^ 62 + 2 ^ 60 }
-    ensures written { IsWritten (O.written output.old) (O.written output.new) result
+)
+    ensures { Passes (O.device writer.old) sheet.old (O.device writer.new) sheet.new
         (verdict_text limit (Kept used bound why)) }
-    ensures failures { O.failed output.new ≡ O.failed output.old + failed_writes result }
 {
-    let mut spent = Buffer::new();
-    let mut most = Buffer::new();
-    let pieces: [&[u8]; 7] = [
-        b"kept used ",
-        spent.format(used).as_bytes(),
-        word_of(limit),
-        most.format(bound).as_bytes(),
-        b" stop ",
-        name_of(why),
-        b"\n",
-    ];
-    write_line(output, &pieces)
+    sheet.put(writer, b"kept used ");
+    sheet.put_number(writer, used);
+    sheet.put(writer, word_of(limit));
+    sheet.put_number(writer, bound);
+    sheet.put(writer, b" stop ");
+    sheet.put(writer, name_of(why));
+    sheet.put(writer, b"\n");
 }
 
 /// What a limit is called, between two numbers.
 fn word_of(limit: Limit) -> &'static [u8]
-    ensures name { result.now ≡ limit_name limit }
-    ensures short { length result.now ≤ 10 }
+    ensures { result.now ≡ limit_name limit }
 {
     match limit {
         Limit::Bound => b" bound ",
@@ -73,8 +59,7 @@ fn word_of(limit: Limit) -> &'static [u8]
 
 /// What the reason of a stop is called.
 fn name_of(why: Why) -> &'static [u8]
-    ensures name { result.now ≡ why_name why }
-    ensures short { length result.now ≤ 10 }
+    ensures { result.now ≡ why_name why }
 {
     match why {
         Why::Operation => b"operation",
@@ -88,113 +73,78 @@ fn name_of(why: Why) -> &'static [u8]
     }
 }
 
-/// Writes the line of a run that leaves the notes in this way at this step, with `used` word times
+/// Puts the line of a run that leaves the notes in this way at this step, with `used` word times
 /// used before it.
-fn write_left<O: Output>(output: &mut O, what: Left, step: u64, used: u64) -> Result<(), WriteFault>
-    requires { O.called output.old ≤ 2 ^ 62 + 2 ^ 60 }
-    ensures written { IsWritten (O.written output.old) (O.written output.new) result
+fn put_left<O: Output>(sheet: &mut Sheet, writer: &mut O, what: Left, step: u64, used: u64)
+    ensures { Passes (O.device writer.old) sheet.old (O.device writer.new) sheet.new
         (left_text what step used) }
-    ensures failures { O.failed output.new ≡ O.failed output.old + failed_writes result }
 {
     match what {
-        Left::Unlisted(location, word) => write_unlisted(output, location, word, step, used),
-        Left::TooOften(from, onto) => {
-            write_edge(output, b"left toooften ", from, onto, step, used)
+        Left::Unlisted(location, word) => {
+            put_unlisted(sheet, writer, location, word, step, used)
         }
-        Left::NotBack(exit, onto) => write_edge(output, b"left notback ", exit, onto, step, used),
-        Left::Switch => write_at_step(output, b"left switch step ", step, used),
-        Left::LoadCard => write_at_step(output, b"left loadcard step ", step, used),
+        Left::TooOften(from, onto) => {
+            put_edge(sheet, writer, b"left toooften ", from, onto, step, used)
+        }
+        Left::NotBack(exit, onto) => {
+            put_edge(sheet, writer, b"left notback ", exit, onto, step, used)
+        }
+        Left::Switch => put_at_step(sheet, writer, b"left switch step ", step, used),
+        Left::LoadCard => put_at_step(sheet, writer, b"left loadcard step ", step, used),
     }
 }
 
-/// Writes the line of a word that isn't allowed at its location.
-fn write_unlisted<O: Output>(
-    output: &mut O,
+/// Puts the line of a word that isn't allowed at its location.
+fn put_unlisted<O: Output>(
+    sheet: &mut Sheet,
+    writer: &mut O,
     location: Location,
     word: Word,
     step: u64,
     used: u64,
-) -> Result<(), WriteFault>
-    requires { O.called output.old ≤ 2 ^ 62 + 2 ^ 60 }
-    ensures written { IsWritten (O.written output.old) (O.written output.new) result
+)
+    ensures { Passes (O.device writer.old) sheet.old (O.device writer.new) sheet.new
         (left_text (Unlisted location word) step used) }
-    ensures failures { O.failed output.new ≡ O.failed output.old + failed_writes result }
 {
-    let at = four_digits(location.number());
-    let spelled = spelling_of(word);
-    let mut number = Buffer::new();
-    let mut spent = Buffer::new();
-    let pieces: [&[u8]; 9] = [
-        b"left unlisted ",
-        &at,
-        b" ",
-        &spelled,
-        b" step ",
-        number.format(step).as_bytes(),
-        b" used ",
-        spent.format(used).as_bytes(),
-        b"\n",
-    ];
-    write_line(output, &pieces)
+    sheet.put(writer, b"left unlisted ");
+    put_location(sheet, writer, location);
+    sheet.put(writer, b" ");
+    sheet.put(writer, &spelling_of(word));
+    put_at_step(sheet, writer, b" step ", step, used);
 }
 
-/// Writes a line of a text, the step's edge, the step and the word times used before it.
-fn write_edge<O: Output>(
-    output: &mut O,
+/// Puts a line of a text, the step's edge, the step and the word times used before it.
+fn put_edge<O: Output>(
+    sheet: &mut Sheet,
+    writer: &mut O,
     text: &[u8],
     from: Location,
     onto: Location,
     step: u64,
     used: u64,
-) -> Result<(), WriteFault>
-    requires called { O.called output.old ≤ 2 ^ 62 + 2 ^ 60 }
-    requires short { length text.now ≤ 100 }
-    ensures written { IsWritten (O.written output.old) (O.written output.new) result
+)
+    ensures { Passes (O.device writer.old) sheet.old (O.device writer.new) sheet.new
         (text.now ++ digits_of 4 from.number ++ codes " " ++ digits_of 4 onto.number
         ++ codes " step " ++ decimal step ++ codes " used " ++ decimal used ++ codes "\n") }
-    ensures failures { O.failed output.new ≡ O.failed output.old + failed_writes result }
 {
-    let from = four_digits(from.number());
-    let onto = four_digits(onto.number());
-    let mut number = Buffer::new();
-    let mut spent = Buffer::new();
-    let pieces: [&[u8]; 9] = [
-        text,
-        &from,
-        b" ",
-        &onto,
-        b" step ",
-        number.format(step).as_bytes(),
-        b" used ",
-        spent.format(used).as_bytes(),
-        b"\n",
-    ];
-    write_line(output, &pieces)
+    sheet.put(writer, text);
+    put_location(sheet, writer, from);
+    sheet.put(writer, b" ");
+    put_location(sheet, writer, onto);
+    put_at_step(sheet, writer, b" step ", step, used);
 }
 
-/// Writes a line of a text, a step and the word times used before it.
-fn write_at_step<O: Output>(
-    output: &mut O,
-    text: &[u8],
-    step: u64,
-    used: u64,
-) -> Result<(), WriteFault>
-    requires called { O.called output.old ≤ 2 ^ 62 + 2 ^ 60 }
-    requires short { length text.now ≤ 100 }
-    ensures written { IsWritten (O.written output.old) (O.written output.new) result
+/// Puts a line of a text, a step and the word times used before it.
+#[tactic(auto, using(drum_sheet::proofs::Passing::passing))]
+fn put_at_step<O: Output>(sheet: &mut Sheet, writer: &mut O, text: &[u8], step: u64, used: u64)
+    ensures { Passes (O.device writer.old) sheet.old (O.device writer.new) sheet.new
         (text.now ++ decimal step ++ codes " used " ++ decimal used ++ codes "\n") }
-    ensures failures { O.failed output.new ≡ O.failed output.old + failed_writes result }
 {
-    let mut number = Buffer::new();
-    let mut spent = Buffer::new();
-    let pieces: [&[u8]; 5] = [
-        text,
-        number.format(step).as_bytes(),
-        b" used ",
-        spent.format(used).as_bytes(),
-        b"\n",
-    ];
-    write_line(output, &pieces)
+    sheet.put(writer, text);
+    sheet.put_number(writer, step);
+    sheet.put(writer, b" used ");
+    sheet.put_number(writer, used);
+    sheet.put(writer, b"\n");
 }
 
 /// The text of a word: its sign and its ten digits.

@@ -1,18 +1,16 @@
 -- Of operations_at: all instructions of a pattern have its operation, so adding this once does what
 -- adding each of theirs would. What was added so far and what is left make up the definition's
 -- list.
-use Rattle.std.proofs.Common.{◌≡◌, ℕ, List, [], length, sym, ap, ◌∙◌, arith}
+use Rattle.std.proofs.Common.{◌≡◌, ℕ, List, [], sym, ap, ◌∙◌}
 use Rattle.std.specs.Prelude.{flat_map}
 use Rattle.drum_core.specs.declared.instruction.Instruction.{Instruction}
 use Rattle.drum_deck.specs.InDeck.{loads_in}
-use Rattle.drum_times.specs.declared.notes.pattern.Pattern.{Pattern}
 use Rattle.drum_times.specs.Allowed.{allowed, matching}
 use Rattle.drum_flow.specs.declared.patterns.Patterns.{Patterns}
 use Rattle.drum_flow.specs.Executed.{with_new}
 use Rattle.drum_flow.specs.Patterns.{patterns_left}
 use Rattle.drum_flow.proofs.Additions.{added_more}
-use Rattle.drum_graph.specs.Graph as said
-use Rattle.drum_graph.proofs.PatternOperations.{all_alone, few_operations, one_operation, op_alone}
+use Rattle.drum_graph.proofs.PatternOperations.{all_alone, one_operation, op_alone}
 use Rattle.drum_graph.proofs.operations.operations_at.Goals as goal
 
 pub loop-pattern-init : goal.loop-pattern-init
@@ -34,17 +32,3 @@ loop-pattern-preserved c =
     (c.in_ok-add_operation.ensures ∙ sym (one_operation before pattern))
     ∙ sym (added_more op_alone before pattern (patterns_left c.loop-pattern.pattern-iterator) rest c.in-Some.ensures.steps)
     ∙ c.loop-pattern.invariant
-
-pub returns-clause-few : goal.returns-clause-few
-returns-clause-few c =
-    let found = c.loop-pattern.operations in
-    let all : List ℕ = said.operations (loads_in c.args.deck.now) c.args.notes.now c.args.location.number in
-    let same : found.items ≡ all =
-    sym (ap (λ (left : List Pattern). with_new found.items (flat_map op_alone (flat_map matching left)))
-    c.in-None.ensures.steps.0) ∙ c.loop-pattern.invariant in
-    omega (
-      arith,
-      few_operations (loads_in c.args.deck.now) c.args.notes.now c.args.location.number,
-      ap (λ (xs : List ℕ). length xs) same,
-      found.ok.0,
-    )

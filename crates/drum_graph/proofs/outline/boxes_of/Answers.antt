@@ -1,6 +1,6 @@
 -- Of boxes_of: each word is put into the boxes in its turn, and it is known whether it may follow
 -- another.
-use Rattle.std.proofs.Common.{◌≡◌, ℕ, Bool, List, [], ◌∷◌, ◌++◌, map, length, drop, get_or, ap, sym, ◌∙◌, arith}
+use Rattle.std.proofs.Common.{◌≡◌, ℕ, Bool, List, [], ◌∷◌, ◌++◌, map, drop, get_or, ap, sym, ◌∙◌}
 use Rattle.std.specs.Prelude.{fold, if◌then◌else◌}
 use Rattle.std.specs.Vec.Iter.{into_iter_items}
 use Rattle.drum_graph.specs.declared.node.Node as held
@@ -30,7 +30,7 @@ loop-index-preserved c =
     ∙ (first_left (map (may_follow start words) (map node_of rest)) follows (may_follow start words word)
     c.index.result.now k left).0 in
     let grown : map node_of c.put.new.boxes.items ≡ put marks loops start words before word =
-    c.in_ok-put.ensures.put
+    c.in_ok-put.ensures
     ∙ ap (λ (t : Bool). if t then put_behind marks loops before word else (before ++ word ∷ [])) flag in
     record {
       so_far =
@@ -41,13 +41,4 @@ loop-index-preserved c =
           (first_left (map (may_follow start words) (map node_of rest)) follows (may_follow start words word)
           (may_follow start words word) k left).1
           ∙ ap (λ (n : ℕ). drop n follows) (sym steps.2);
-      few =
-          omega (
-            arith,
-            c.loop-index.invariant.few,
-            c.in_ok-put.ensures.few,
-            ap (λ (all : List held.Node). length all) steps.0.0,
-            c.loop-index.boxes.ok.0,
-            c.put.new.boxes.ok.0,
-          );
     }

@@ -1,4 +1,4 @@
-use Rattle.std.proofs.Common.{◌≡◌, ◌+◌, ◌≤◌, length, map, drop}
+use Rattle.std.proofs.Common.{◌≡◌, map, drop}
 use Rattle.std.specs.Prelude.{fold}
 use Rattle.std.specs.Vec.Iter.{into_iter_items}
 use Rattle.drum_graph.specs.GraphOf.{edges_in, node_of}
@@ -14,5 +14,4 @@ invariant-loop-index l = record {
       ≡ outlined l.marks (edges_in l.loops) l.fn.start.number (map node_of l.fn.words.items);
   known : map (may_follow l.fn.start.number (map node_of l.fn.words.items)) (map node_of (into_iter_items l.index-iterator.iter))
       ≡ drop l.index-iterator.count l.follows.items;
-  few : length l.boxes.items + length (into_iter_items l.index-iterator.iter) ≤ length l.fn.words.items;
 }

@@ -9,8 +9,8 @@ use Rattle.drum_graph.specs.Outline.{join}
 use Rattle.drum_graph.proofs.Outlines.{put_last, put_there, straight}
 use Rattle.drum_graph.proofs.outline.put_behind.Goals as goal
 
-pub returns-in-Some-clause-put : goal.returns-in-Some-clause-put
-returns-in-Some-clause-put c =
+pub returns-in-Some : goal.returns-in-Some
+returns-in-Some c =
     let marks = c.args.marks.now in
     let loops = edges_in c.args.loops.now in
     let word = node_of c.args.word in
@@ -27,8 +27,8 @@ returns-in-Some-clause-put c =
     on_ok_weaker c.join.result (λ same. put_there marks loops word boxes index found.0 c.join.new.self found.1 found.2
     first (same ∙ ap (λ (one : Node). join (node_of one) word) there)) c.join.ensures
 
-pub returns-in_ok-push-in-None-clause-put : goal.returns-in_ok-push-in-None-clause-put
-returns-in_ok-push-in-None-clause-put c =
+pub returns-in_ok-push-in-None : goal.returns-in_ok-push-in-None
+returns-in_ok-push-in-None c =
     let marks = c.args.marks.now in
     let loops = edges_in c.args.loops.now in
     let word = node_of c.args.word in

@@ -1,6 +1,6 @@
 -- Of Findings::of: the findings are put together in the order of the definition, one kind behind
 -- the other. They are of the flow's deck and notes, which are the arguments.
-use Rattle.std.proofs.Common.{◌≡◌, List, ◌++◌, flat_map, sym}
+use Rattle.std.proofs.Common.{◌++◌, flat_map, sym}
 use Rattle.drum_deck.specs.declared.deck.Deck.{Deck}
 use Rattle.drum_deck.specs.InDeck.{loads_in, start_in}
 use Rattle.drum_times.specs.Allowed.{Notes}

@@ -1,13 +1,11 @@
 -- Of Graph::nodes_of: the nodes so far are those of the executed locations so far, in order.
-use Rattle.std.proofs.Common.{◌≡◌, List, [], ◌∷◌, ◌++◌, ℕ, map, length, ap, ◌∙◌, Some, arith, length-append}
+use Rattle.std.proofs.Common.{◌≡◌, [], ◌∷◌, ◌++◌, map, ap, ◌∙◌, Some}
 use Rattle.std.specs.Prelude.{slice_get}
-use Rattle.std.proofs.lemmas.List.{length-map, map-append}
-use Rattle.drum_core.specs.declared.location.Location.{Location}
+use Rattle.std.proofs.lemmas.List.{map-append}
 use Rattle.drum_deck.specs.InDeck.{loads_in}
 use Rattle.drum_flow.proofs.Founds.{number_at}
 use Rattle.drum_flow.specs.Flow.{executed_in, nodes_of}
 use Rattle.drum_acceptance.proofs.Alterations.{all_taken}
-use Rattle.drum_graph.specs.declared.node.Node as held
 use Rattle.drum_graph.specs.Graph.{node}
 use Rattle.drum_graph.specs.GraphOf.{node_of}
 use Rattle.drum_graph.proofs.Nodes.{node_more}
@@ -26,37 +24,14 @@ loop-location-preserved c =
     c.loop-location-test.true c.location-item.is in
     let added : map node_of c.push.new.self.items ≡ map node_of before ++ node_of one ∷ [] =
     ap (map node_of) c.in_ok-push.ensures.items ∙ map-append node_of before (one ∷ []) in
-    record {
-      so_far =
-          node_more (node (loads_in flow.deck.now) flow.notes.now (nodes_of flow)) (map node_of before)
-          (map node_of c.push.new.self.items) executed k location.number (node_of one) here
-          c.loop-location.invariant.so_far c.in_ok-of.ensures added;
-      few =
-          omega (
-            arith,
-            c.loop-location.invariant.few,
-            ap (λ (xs : List held.Node). length xs) c.in_ok-push.ensures.items,
-            length-append before (one ∷ []),
-          );
-    }
+    node_more (node (loads_in flow.deck.now) flow.notes.now (nodes_of flow)) (map node_of before)
+    (map node_of c.push.new.self.items) executed k location.number (node_of one) here c.loop-location.invariant
+    c.in_ok-of.ensures added
 
-pub returns-clause-all : goal.returns-clause-all
-returns-clause-all c =
+pub returns : goal.returns
+returns c =
     let flow = c.args.flow.now in
-    c.loop-location.invariant.so_far
+    c.loop-location.invariant
     ∙ ap (map (node (loads_in flow.deck.now) flow.notes.now (nodes_of flow)))
     (all_taken c.executed-location-items.result.now (executed_in flow) c.loop-location.location-index
     c.executed-location-items.ensures.all c.loop-location-test.false)
-
-pub returns-clause-few : goal.returns-clause-few
-returns-clause-few c =
-    let locations = c.executed-location-items.result.now in
-    omega (
-      arith,
-      c.loop-location.invariant.few,
-      c.loop-location.auto.location-index-end,
-      c.executed-location-items.ensures.few,
-      ap (λ (places : List ℕ). length places) c.executed-location-items.ensures.all,
-      length-map locations (λ (location : Location). location.number),
-      c.loop-location.nodes.ok.0,
-    )

@@ -26,7 +26,7 @@ returns-clause-nodes c =
     flow.deck.now c.args.deck.now flow.notes.now c.args.notes.now deck notes record {
       reached = nodes_of flow;
       found = reached;
-      all = c.in_ok-nodes_of.ensures.all
+      all = c.in_ok-nodes_of.ensures
           ∙ ap (map (node (loads_in flow.deck.now) flow.notes.now (nodes_of flow))) (sym places);
     }
 

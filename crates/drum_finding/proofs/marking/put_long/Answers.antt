@@ -1,0 +1,4 @@
+use Rattle.drum_finding.proofs.marking.put_long.Goals as goal
+
+pub returns-then-long : goal.returns-then-long
+returns-then-long g c = rw c.if-long.true c.put.ensures
