@@ -2,7 +2,7 @@
 
 ghost use Rattle.std.specs.Prelude.{◌≡◌, ◌^◌, ◌≤◌, IfOk, IfErr};
 ghost use Rattle.drum_lines.specs.Does.{Does};
-ghost use Rattle.drum_lines.specs.Output.{Device, device};
+ghost use Rattle.drum_devices.specs.Device.{Device};
 ghost use Rattle.drum_limits.specs.Limits.{HaveNoBound, IsAnalysisFault, IsBracket};
 ghost use Rattle.drum_limits.specs.Limits.{IsCeilingFault, IsDiscoveryFault};
 ghost use Rattle.drum_answers.specs.Basis.{IsBasis};
@@ -32,15 +32,10 @@ use drum_listing::{Size, Table, Waits};
 use drum_picture::{picture, picture_in_rounds};
 use std::alloc::{AllocError, Global};
 
-/// The most bytes of a picture that is printed.
-const PICTURE_BYTES: usize = 1 << 61;
-
 /// Writes the bound.
 fn say_bound<O: Output>(alloc: Global, documents: &Documents, out: &mut O) -> Result<Status, Fault>
-    requires { O.called out.old ≤ 2 ^ 62 }
     ensures does { (err : Device) → Does (SaysBound documents.now) (IsAnalysisFault documents.now)
-        (device (O.written out.old) (O.failed out.old))
-        (device (O.written out.new) (O.failed out.new)) err err result }
+        (O.device out.old) (O.device out.new) err err result }
     ensures spared { IfErr result (λ _. out.new ≡ out.old) }
 {
     let bound = bound_of(alloc, documents)?;
@@ -51,8 +46,7 @@ fn say_bound<O: Output>(alloc: Global, documents: &Documents, out: &mut O) -> Re
 fn say_report<O: Output>(alloc: Global, documents: &Documents, out: &mut O) -> Result<Status, Fault>
     requires { O.called out.old ≤ 2 ^ 62 }
     ensures does { (err : Device) → Does (SaysReport documents.now) (IsAnalysisFault documents.now)
-        (device (O.written out.old) (O.failed out.old))
-        (device (O.written out.new) (O.failed out.new)) err err result }
+        (O.device out.old) (O.device out.new) err err result }
     ensures spared { IfErr result (λ _. out.new ≡ out.old) }
 {
     let analysis = analysis_of(alloc, documents)?;
@@ -71,8 +65,7 @@ fn say_rounds<O: Output>(
     requires right { IsBracket documents.now bracket.now }
     ensures does { (err : Device) → Does (ByEither SaysWalk SaysRounds documents.now)
         (IsCeilingFault documents.now)
-        (device (O.written out.old) (O.failed out.old))
-        (device (O.written out.new) (O.failed out.new)) err err result }
+        (O.device out.old) (O.device out.new) err err result }
     ensures spared { IfErr result (λ _. out.new ≡ out.old) }
 {
     let outline = Outline::of(alloc, &bracket.walk)?;
@@ -84,8 +77,7 @@ fn say_walk<O: Output>(alloc: Global, documents: &Documents, out: &mut O) -> Res
     requires { O.called out.old ≤ 2 ^ 62 }
     ensures does { (err : Device) → Does (ByEither SaysWalk SaysRounds documents.now)
         (IsCeilingFault documents.now)
-        (device (O.written out.old) (O.failed out.old))
-        (device (O.written out.new) (O.failed out.new)) err err result }
+        (O.device out.old) (O.device out.new) err err result }
     ensures spared { IfErr result (λ _. out.new ≡ out.old) }
 {
     let basis = basis_of(alloc, documents)?;
@@ -107,8 +99,7 @@ fn say_rounds_waits<O: Output>(
     requires right { IsBracket documents.now bracket.now }
     ensures does { (err : Device) → Does (ByEither SaysWaits SaysRoundsWaits documents.now)
         (IsCeilingFault documents.now)
-        (device (O.written out.old) (O.failed out.old))
-        (device (O.written out.new) (O.failed out.new)) err err result }
+        (O.device out.old) (O.device out.new) err err result }
     ensures spared { IfErr result (λ _. out.new ≡ out.old) }
 {
     let waits = WaitsInRounds::of(alloc, &bracket.walk, &documents.times)?;
@@ -126,8 +117,7 @@ fn say_bound_waits<O: Output>(
     requires right { IsBasis documents.now (bases.Bound analysis.now) }
     ensures does { (err : Device) → Does (ByEither SaysWaits SaysRoundsWaits documents.now)
         (IsCeilingFault documents.now)
-        (device (O.written out.old) (O.failed out.old))
-        (device (O.written out.new) (O.failed out.new)) err err result }
+        (O.device out.old) (O.device out.new) err err result }
     ensures spared { IfErr result (λ _. out.new ≡ out.old) }
 {
     let waits = Waits::of(alloc, analysis, &documents.times)?;
@@ -139,8 +129,7 @@ fn say_waits<O: Output>(alloc: Global, documents: &Documents, out: &mut O) -> Re
     requires { O.called out.old ≤ 2 ^ 62 }
     ensures does { (err : Device) → Does (ByEither SaysWaits SaysRoundsWaits documents.now)
         (IsCeilingFault documents.now)
-        (device (O.written out.old) (O.failed out.old))
-        (device (O.written out.new) (O.failed out.new)) err err result }
+        (O.device out.old) (O.device out.new) err err result }
     ensures spared { IfErr result (λ _. out.new ≡ out.old) }
 {
     let basis = basis_of(alloc, documents)?;
@@ -154,8 +143,7 @@ fn say_waits<O: Output>(alloc: Global, documents: &Documents, out: &mut O) -> Re
 fn say_table<O: Output>(alloc: Global, documents: &Documents, out: &mut O) -> Result<Status, Fault>
     requires { O.called out.old ≤ 2 ^ 62 }
     ensures does { (err : Device) → Does (SaysTable documents.now) (IsAnalysisFault documents.now)
-        (device (O.written out.old) (O.failed out.old))
-        (device (O.written out.new) (O.failed out.new)) err err result }
+        (O.device out.old) (O.device out.new) err err result }
     ensures spared { IfErr result (λ _. out.new ≡ out.old) }
 {
     let analysis = analysis_of(alloc, documents)?;
@@ -165,10 +153,8 @@ fn say_table<O: Output>(alloc: Global, documents: &Documents, out: &mut O) -> Re
 
 /// Writes how large the analysis is.
 fn say_size<O: Output>(alloc: Global, documents: &Documents, out: &mut O) -> Result<Status, Fault>
-    requires { O.called out.old ≤ 2 ^ 62 }
     ensures does { (err : Device) → Does (SaysSize documents.now) (IsAnalysisFault documents.now)
-        (device (O.written out.old) (O.failed out.old))
-        (device (O.written out.new) (O.failed out.new)) err err result }
+        (O.device out.old) (O.device out.new) err err result }
     ensures spared { IfErr result (λ _. out.new ≡ out.old) }
 {
     let analysis = analysis_of(alloc, documents)?;
@@ -179,11 +165,9 @@ fn say_size<O: Output>(alloc: Global, documents: &Documents, out: &mut O) -> Res
 
 /// Writes the flow graph.
 fn say_graph<O: Output>(alloc: Global, documents: &Documents, out: &mut O) -> Result<Status, Fault>
-    requires { O.called out.old ≤ 2 ^ 62 }
     ensures does { (err : Device) → Does (SaysGraph documents.now)
         (IsDiscoveryFault documents.now)
-        (device (O.written out.old) (O.failed out.old))
-        (device (O.written out.new) (O.failed out.new)) err err result }
+        (O.device out.old) (O.device out.new) err err result }
     ensures spared { IfErr result (λ _. out.new ≡ out.old) }
 {
     let graph = Graph::of(alloc, &documents.deck, &documents.notes)?;
@@ -196,11 +180,9 @@ fn say_outline<O: Output>(
     documents: &Documents,
     out: &mut O,
 ) -> Result<Status, Fault>
-    requires { O.called out.old ≤ 2 ^ 62 }
     ensures does { (err : Device) → Does (SaysOutline documents.now)
         (IsDiscoveryFault documents.now)
-        (device (O.written out.old) (O.failed out.old))
-        (device (O.written out.new) (O.failed out.new)) err err result }
+        (O.device out.old) (O.device out.new) err err result }
     ensures spared { IfErr result (λ _. out.new ≡ out.old) }
 {
     let graph = Graph::outline(alloc, &documents.deck, &documents.notes)?;
@@ -229,17 +211,15 @@ fn say_picture<O: Output>(
     documents: &Documents,
     out: &mut O,
 ) -> Result<Status, Fault>
-    requires { O.called out.old ≤ 2 ^ 62 }
     ensures does { (err : Device) → Does (ByEither SaysPicture SaysPictureInRounds documents.now)
         (IsCeilingFault documents.now)
-        (device (O.written out.old) (O.failed out.old))
-        (device (O.written out.new) (O.failed out.new)) err err result }
+        (O.device out.old) (O.device out.new) err err result }
     ensures spared { IfErr result (λ _. out.new ≡ out.old) }
 {
     let basis = basis_of(alloc, documents)?;
     match picture_by(alloc, documents, &basis) {
-        Ok(text) if text.len() <= PICTURE_BYTES => Ok(tell_text(out, text.as_bytes())),
-        _ => Err(Fault::Refused(Refusal::Memory)),
+        Ok(text) => Ok(tell_text(out, text.as_bytes())),
+        Err(_) => Err(Fault::Refused(Refusal::Memory)),
     }
 }
 
@@ -251,8 +231,7 @@ fn say_ceiling<O: Output>(
 ) -> Result<Status, Fault>
     requires { O.called out.old ≤ 2 ^ 62 }
     ensures does { (err : Device) → Does (SaysCeiling documents.now) (IsCeilingFault documents.now)
-        (device (O.written out.old) (O.failed out.old))
-        (device (O.written out.new) (O.failed out.new)) err err result }
+        (O.device out.old) (O.device out.new) err err result }
     ensures spared { IfErr result (λ _. out.new ≡ out.old) }
 {
     let bracket = bracket_of(alloc, documents)?;
@@ -273,8 +252,7 @@ pub fn answer_question<O: Output>(
 ) -> Result<Status, Fault>
     requires { O.called out.old ≤ 2 ^ 62 }
     ensures does { (err : Device) → Does (Says question documents.now)
-        (Refuses question documents.now) (device (O.written out.old) (O.failed out.old))
-        (device (O.written out.new) (O.failed out.new)) err err result }
+        (Refuses question documents.now) (O.device out.old) (O.device out.new) err err result }
     ensures spared { IfErr result (λ _. out.new ≡ out.old) }
 {
     match question {

@@ -3,7 +3,7 @@
 ghost use Rattle.std.specs.Prelude.{◌≡◌, ◌^◌, ◌≤◌};
 ghost use Rattle.drum_times.specs.Entries.{entry_in};
 ghost use Rattle.drum_bound.specs.AnalysisOf.{angle_of, bound_of, visits_of};
-ghost use Rattle.drum_lines.specs.Output.{GetsResult, device};
+ghost use Rattle.drum_lines.specs.Output.{GetsResult};
 ghost use Rattle.drum_graph.specs.GraphOf.{loops_in, nodes_in, start_of};
 ghost use Rattle.drum_graph.specs.GraphText.{graph_text};
 ghost use Rattle.drum_listing.specs.Report.{report_text};
@@ -23,15 +23,15 @@ use drum_bracket::{Outline, WaitsInRounds, list_rounds, list_rounds_waits, repor
 use drum_ceiling::Bracket;
 use drum_devices::Output;
 use drum_documents::Documents;
-use drum_graph::{Graph, send_graph};
-use drum_lines::{Status, ended};
+use drum_graph::{Graph, put_graph};
+use drum_lines::{Status, end_result, ended};
 use drum_listing::{Table, Waits, list_table, list_waits, list_walk, report};
+use drum_sheet::Sheet;
 
 /// Writes the report of an analysis.
 pub fn tell_report<O: Output>(out: &mut O, documents: &Documents, analysis: &Analysis) -> Status
     requires { O.called out.old ≤ 2 ^ 62 }
-    ensures { GetsResult (device (O.written out.old) (O.failed out.old))
-        (device (O.written out.new) (O.failed out.new))
+    ensures { GetsResult (O.device out.old) (O.device out.new)
         (report_text documents.now.deck documents.now.notes (visits_of analysis.now))
         Status.Done result }
 {
@@ -44,8 +44,7 @@ pub fn tell_report<O: Output>(out: &mut O, documents: &Documents, analysis: &Ana
 /// Writes the worst walk of an analysis.
 pub fn tell_walk<O: Output>(out: &mut O, documents: &Documents, analysis: &Analysis) -> Status
     requires { O.called out.old ≤ 2 ^ 62 }
-    ensures { GetsResult (device (O.written out.old) (O.failed out.old))
-        (device (O.written out.new) (O.failed out.new))
+    ensures { GetsResult (O.device out.old) (O.device out.new)
         (walk_text (entry_in documents.now.times) (angle_of analysis.now) (visits_of analysis.now)
         (bound_of analysis.now)) Status.Done result }
 {
@@ -62,8 +61,7 @@ pub fn tell_rounds<O: Output>(
     requires called { O.called out.old ≤ 2 ^ 62 }
     requires right { IsBracket documents.now bracket.now }
     requires outlined { IsOutlineOf bracket.now.walk outline }
-    ensures { GetsResult (device (O.written out.old) (O.failed out.old))
-        (device (O.written out.new) (O.failed out.new))
+    ensures { GetsResult (O.device out.old) (O.device out.new)
         (rounds_text (entry_in documents.now.times) bracket.now) Status.Done result }
 {
     ended(
@@ -82,8 +80,7 @@ pub fn tell_waits<O: Output>(
     requires called { O.called out.old ≤ 2 ^ 62 }
     requires right { AreWaits (entry_in documents.now.times) (angle_of analysis.now)
         (visits_of analysis.now) waits.now }
-    ensures { GetsResult (device (O.written out.old) (O.failed out.old))
-        (device (O.written out.new) (O.failed out.new))
+    ensures { GetsResult (O.device out.old) (O.device out.new)
         (waits_text (entry_in documents.now.times) (angle_of analysis.now) (visits_of analysis.now)
         (firsts_of waits.now) (bound_of analysis.now)) Status.Done result }
 {
@@ -101,8 +98,7 @@ pub fn tell_rounds_waits<O: Output>(
     waits: &WaitsInRounds,
 ) -> Status
     requires { O.called out.old ≤ 2 ^ 62 }
-    ensures { GetsResult (device (O.written out.old) (O.failed out.old))
-        (device (O.written out.new) (O.failed out.new))
+    ensures { GetsResult (O.device out.old) (O.device out.new)
         (listed (entry_in documents.now.times) waits.now bracket.now) Status.Done result }
 {
     ended(
@@ -114,8 +110,7 @@ pub fn tell_rounds_waits<O: Output>(
 /// Writes a table of worst times.
 pub fn tell_table<O: Output>(out: &mut O, documents: &Documents, table: &Table) -> Status
     requires { O.called out.old ≤ 2 ^ 62 }
-    ensures { GetsResult (device (O.written out.old) (O.failed out.old))
-        (device (O.written out.new) (O.failed out.new))
+    ensures { GetsResult (O.device out.old) (O.device out.new)
         (table_text documents.now.notes.marks (rows_in table.now)) Status.Done result }
 {
     ended(
@@ -126,25 +121,20 @@ pub fn tell_table<O: Output>(out: &mut O, documents: &Documents, table: &Table) 
 
 /// Writes a flow graph, or its outline.
 pub fn tell_graph<O: Output>(out: &mut O, documents: &Documents, graph: &Graph) -> Status
-    requires { O.called out.old ≤ 2 ^ 62 }
-    ensures { GetsResult (device (O.written out.old) (O.failed out.old))
-        (device (O.written out.new) (O.failed out.new))
+    ensures { GetsResult (O.device out.old) (O.device out.new)
         (graph_text documents.now.notes.marks (loops_in graph.now) (start_of graph.now)
-        (nodes_in graph.now))
-        Status.Done result }
+        (nodes_in graph.now)) Status.Done result }
 {
-    ended(
-        send_graph(graph, documents.notes.marks(), out),
-        Status::Done,
-    )
+    let mut sheet = Sheet::new();
+    put_graph(&mut sheet, out, documents.notes.marks(), graph);
+    end_result(sheet, out, Status::Done)
 }
 
 /// Writes a ceiling and its walk.
 pub fn tell_ceiling<O: Output>(out: &mut O, documents: &Documents, bracket: &Bracket) -> Status
     requires called { O.called out.old ≤ 2 ^ 62 }
     requires right { IsBracket documents.now bracket.now }
-    ensures { GetsResult (device (O.written out.old) (O.failed out.old))
-        (device (O.written out.new) (O.failed out.new))
+    ensures { GetsResult (O.device out.old) (O.device out.new)
         (ceiling_text documents.now.notes bracket.now) Status.Done result }
 {
     ended(report_ceiling(bracket, &documents.notes, out), Status::Done)

@@ -1,5 +1,5 @@
 -- Why a command line has no command.
-use Rattle.std.specs.Prelude.{◌≡◌, ◌≢◌, ◌≤◌, ◌^◌, string_len}
+use Rattle.std.specs.Prelude.{◌≡◌, ◌≢◌}
 use Rattle.clap.specs.Kinds.{IsAmong, Kinds}
 use Rattle.clap.specs.declared.error.kind.ErrorKind.{ErrorKind}
 use Rattle.clap.specs.declared.error.kind.ErrorKind.TheVariants.{DisplayHelp, OutOfMemory}
@@ -19,9 +19,3 @@ FitsAmong kinds (Help text) = IsAmong DisplayHelp kinds
 FitsAmong kinds (Usage text) =
     (kind : ErrorKind) × IsAmong kind kinds × (kind ≢ DisplayHelp) × (kind ≢ OutOfMemory)
 FitsAmong kinds Memory = Unit {0}
-
--- its text has at most 2^61 bytes
-abbrev pub IsShort : Refused → Type 0
-IsShort (Help text) = string_len text ≤ 2 ^ 61
-IsShort (Usage text) = string_len text ≤ 2 ^ 61
-IsShort Memory = Unit {0}

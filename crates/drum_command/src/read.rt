@@ -4,7 +4,7 @@ ghost use Rattle.clap.specs.Walk.{texts};
 ghost use Rattle.clap.specs.Words.{Text, fault_of, takes};
 ghost use Rattle.drum_command.specs.Line.{IsLineOf, drum650, said_by, said_by_words, said_of};
 ghost use Rattle.drum_command.specs.Line.{verbs};
-ghost use Rattle.drum_command.specs.Refusal.{FitsAmong, IsShort};
+ghost use Rattle.drum_command.specs.Refusal.{FitsAmong};
 
 use crate::command::Command;
 use crate::found::command_in;
@@ -35,8 +35,6 @@ pub fn read_words<'a>(alloc: Global, words: &'a [&'a str]) -> Result<Command<'a>
         takes drum650 (texts words.entry.now) ≡ true → refused ≡ Refused.Memory) }
     // Help and Usage each answer a fault that clap states of these words.
     ensures kinds { IfErr result (FitsAmong (fault_of drum650 (texts words.entry.now))) }
-    // The texts of Help and Usage have at most 2^61 bytes.
-    ensures short { IfErr result IsShort }
 {
     let Ok(line) = command_line(alloc) else {
         return Err(Refused::Memory);

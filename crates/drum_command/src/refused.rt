@@ -1,14 +1,11 @@
 //! Why a command line has no command.
 ghost use Rattle.clap.specs.Values.{kind_of};
-ghost use Rattle.drum_command.specs.Refusal.{FitsKind, IsShort};
+ghost use Rattle.drum_command.specs.Refusal.{FitsKind};
 
 use clap::error::ErrorKind;
 use std::alloc::Global;
 
-/// The most bytes of a text. No machine has addresses for more.
-const BYTES: usize = 1 << 61;
-
-/// Why a command line has no command. The texts are for the user, and have at most 2^61 bytes.
+/// Why a command line has no command. The texts are for the user.
 #[derive(Debug, Drop)]
 pub enum Refused {
     /// Help was asked for: the text is the help.
@@ -19,19 +16,14 @@ pub enum Refused {
     Memory,
 }
 
-/// The refusal that clap's error stands for. Without memory for its text, and of a text past the
-/// limit, it is `Memory`.
+/// The refusal that clap's error stands for; `Memory` without memory for its text.
 pub(crate) fn refused_by(alloc: Global, error: &clap::Error) -> Refused
-    ensures fits { FitsKind (kind_of error.now) result }
-    ensures short { IsShort result }
+    ensures { FitsKind (kind_of error.now) result }
 {
     let kind = error.kind();
     let Ok(text) = format!(in alloc; "{error}") else {
         return Refused::Memory;
     };
-    if text.len() > BYTES {
-        return Refused::Memory;
-    }
     match kind {
         ErrorKind::OutOfMemory => Refused::Memory,
         ErrorKind::DisplayHelp => Refused::Help(text),

@@ -12,9 +12,9 @@ use crate::placed_fault::PlacedFault;
 use crate::slip::Slip;
 use drum_core::Location;
 use drum_deck::DeckFault;
-use drum_devices::Writing;
+use drum_devices::{Output, Writing};
 use drum_inputs::InputFault;
-use drum_lines::{Fault, write_fault};
+use drum_lines::{Fault, tell_fault};
 use drum_times::NoteFault;
 use itoa::Buffer;
 use std::alloc::AllocError;
@@ -59,10 +59,11 @@ fn with_fault(text: Vec<u8>, fault: &Fault) -> Result<Vec<u8>, AllocError>
     ensures { IfOk result (λ new. new.items ≡ text.items ++ fault_text fault.now) }
 {
     let mut writing = Writing::new(text);
-    match write_fault(&mut writing, fault) {
-        Ok(()) => Ok(writing.writer),
-        Err(_) => Err(AllocError),
+    tell_fault(&mut writing, fault);
+    if writing.failures() > 0 {
+        return Err(AllocError);
     }
+    Ok(writing.writer)
 }
 
 /// The earlier line that a fault points at, if it points at one.

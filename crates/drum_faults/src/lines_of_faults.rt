@@ -1,6 +1,6 @@
 //! The lines of all faults of texts.
 
-ghost use Rattle.std.specs.Prelude.{◌≡◌, ℕ, ◌^◌, ◌≤◌, List, ◌++◌, length, codes, IfOk, Some};
+ghost use Rattle.std.specs.Prelude.{◌≡◌, ℕ, List, ◌++◌, codes, IfOk, Some};
 ghost use Rattle.std.specs.Prelude.{option_map};
 ghost use Rattle.drum_toml.specs.AllFaults as of_notes;
 ghost use Rattle.drum_toml.specs.TimesDocument as of_times;
@@ -19,9 +19,6 @@ use crate::named_text::NamedText;
 use drum_toml::{Complaint, long_notes_faults, times_faults, toml_complaint};
 use std::alloc::{AllocError, Global};
 
-/// The most bytes of all lines: for more no machine has room.
-const LONGEST: usize = 1 << 61;
-
 /// The lines of all faults of a deck, a timing table and long notes, and of inputs where there are
 /// any; empty where they have none. Of a timing table or notes that are no document, the last line
 /// is what `toml` says, and where. Where deck and inputs are sound, each location that both load is
@@ -29,8 +26,7 @@ const LONGEST: usize = 1 << 61;
 ///
 /// # Errors
 ///
-/// [`AllocError`] where there is no memory, and for lines of more than 2^61 bytes in all, for which
-/// no machine has room.
+/// [`AllocError`] where there is no memory.
 pub fn fault_lines(
     alloc: Global,
     deck: NamedText<'_>,
@@ -38,18 +34,14 @@ pub fn fault_lines(
     notes: NamedText<'_>,
     inputs: Option<NamedText<'_>>,
 ) -> Result<Vec<u8>, AllocError>
-    ensures lines { IfOk result (λ lines. AreFaultLines (named deck.entry) (named times.entry)
+    ensures { IfOk result (λ lines. AreFaultLines (named deck.entry) (named times.entry)
         (named notes.entry) (option_map named inputs.entry) lines.items) }
-    ensures short { IfOk result (λ lines. length lines.items ≤ 2 ^ 61) }
 {
     let faults = deck_faults(alloc, deck.bytes)?;
     let text = with_deck_faults(Vec::new(alloc), deck.name, &faults)?;
     let text = with_times(alloc, text, times)?;
     let text = with_notes(alloc, text, notes)?;
     let text = with_inputs(alloc, text, deck, inputs)?;
-    if text.len() > LONGEST {
-        return Err(AllocError);
-    }
     Ok(text)
 }
 

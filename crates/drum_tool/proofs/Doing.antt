@@ -3,7 +3,7 @@ use Rattle.std.proofs.Common.{Result, Ok, Err, IfErr}
 use Rattle.drum_lines.specs.declared.fault.Fault.{Fault}
 use Rattle.drum_lines.specs.declared.status.Status.{Status}
 use Rattle.drum_lines.specs.Does.{Does}
-use Rattle.drum_lines.specs.Output.{Device}
+use Rattle.drum_devices.specs.Device.{Device}
 use Rattle.drum_lines.specs.Reply.{Reply}
 
 module _ (P : Reply → Type 0) (R T : Fault → Type 0) (out out' err err' : Device) where

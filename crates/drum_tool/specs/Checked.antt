@@ -1,5 +1,5 @@
 -- What a check of texts comes to, as it is held.
-use Rattle.std.specs.Prelude.{◌≡◌, ◌≢◌, ◌≤◌, ◌^◌, [], length, Option}
+use Rattle.std.specs.Prelude.{◌≡◌, ◌≢◌, [], Option}
 use Rattle.drum_deck.specs.InDeck.{loads_in, start_in}
 use Rattle.drum_deck.specs.declared.deck.fault.DeckFault.TheVariants as of_deck
 use Rattle.drum_times.specs.declared.fault.NoteFault.TheVariants as of_note
@@ -33,11 +33,6 @@ IsChecked files texts inputs (Sound findings lacking) =
 abbrev pub AreLacking : Checked → Type 0
 AreLacking (Faulty lines) = Unit {0}
 AreLacking (Sound findings lacking) = words_in lacking ≡ words_altered (found_in findings)
-
--- lines that are short enough to go out in one piece
-abbrev pub IsShort : Checked → Type 0
-IsShort (Faulty lines) = length lines.items ≤ 2 ^ 61
-IsShort (Sound findings lacking) = Unit {0}
 
 -- memory ran out while a text was read
 abbrev pub IsMemoryOfText : Fault → Type 0

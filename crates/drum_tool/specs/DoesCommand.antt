@@ -7,7 +7,7 @@ use Rattle.drum_lines.specs.FaultStatus.{reads_failed}
 use Rattle.drum_documents.specs.Asked.{files_sought, part_of}
 use Rattle.drum_documents.specs.Files.{AreTold, FilesTold, Contents}
 use Rattle.drum_lines.specs.Does.{Does}
-use Rattle.drum_lines.specs.Output.{Device}
+use Rattle.drum_devices.specs.Device.{Device}
 use Rattle.drum_lines.specs.Reply.{Reply, fault_reply}
 use Rattle.drum_tool.specs.Commands.{AnswersCommand}
 

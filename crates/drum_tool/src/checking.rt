@@ -1,10 +1,10 @@
 //! A check of texts: all of their faults, or all that keeps the deck that they say from a bound.
 
-ghost use Rattle.std.specs.Prelude.{◌≡◌, [], IfOk, IfErr, ◌≤◌, ◌^◌, length, option_map};
+ghost use Rattle.std.specs.Prelude.{◌≡◌, ◌≤◌, ◌^◌, [], IfOk, IfErr, option_map};
 ghost use Rattle.drum_deck.specs.InDeck.{loads_in, start_in};
 ghost use Rattle.drum_toml.specs.declared.notes.notes_read.NotesRead.TheVariants.{Long};
 ghost use Rattle.drum_lines.specs.FaultStatus.{IsOutOfMemory};
-ghost use Rattle.drum_lines.specs.Output.{GetsResult, device};
+ghost use Rattle.drum_lines.specs.Output.{GetsResult};
 ghost use Rattle.drum_finding.specs.Lacking.{are_long, check_text, words_altered};
 ghost use Rattle.drum_finding.specs.LackingOf.{words_in};
 ghost use Rattle.drum_check.specs.Findings.{AreFindings};
@@ -14,7 +14,7 @@ ghost use Rattle.drum_documents.specs.Documents.{Say};
 ghost use Rattle.drum_documents.specs.TextsOf.{inputs_in, texts_in};
 ghost use Rattle.drum_documents.specs.Asked.{name_in};
 ghost use Rattle.drum_limits.specs.Limits.{IsDiscoveryFault};
-ghost use Rattle.drum_tool.specs.Checked.{AreLacking, IsChecked, IsMemoryOfText, IsShort};
+ghost use Rattle.drum_tool.specs.Checked.{AreLacking, IsChecked, IsMemoryOfText};
 ghost use Rattle.drum_tool.specs.SaysCheck.{AreLinesOfFaults, RefusesCheck, status_after_check};
 
 use drum_check::Findings;
@@ -25,7 +25,8 @@ use drum_documents::{Documents, Texts};
 use drum_faults::laws::sound_where_none;
 use drum_faults::{NamedText, fault_lines};
 use drum_finding::Lacking;
-use drum_lines::{Fault, Status, ended};
+use drum_lines::{Fault, Status, end_result};
+use drum_sheet::Sheet;
 use drum_toml::NotesRead;
 use drum_toml::laws::{says_long_notes, says_times};
 use std::alloc::Global;
@@ -48,7 +49,6 @@ fn lines_of(
 ) -> Result<Vec<u8>, Fault>
     ensures lines { IfOk result (λ lines. AreLinesOfFaults files.entry (texts_in texts.now)
         (option_map named inputs.entry) lines.items) }
-    ensures short { IfOk result (λ lines. length lines.items ≤ 2 ^ 61) }
     ensures memory { IfErr result IsOutOfMemory }
 {
     let deck = NamedText {
@@ -142,7 +142,6 @@ pub fn check(
     ensures checked { IfOk result
         (IsChecked files.entry (texts_in texts.now) (option_map named inputs.entry)) }
     ensures lacking { IfOk result AreLacking }
-    ensures short { IfOk result IsShort }
     ensures refused { IfErr result (RefusesCheck (texts_in texts.now)) }
 {
     let lines = lines_of(alloc, files, texts, inputs)?;
@@ -168,12 +167,12 @@ fn status_of(findings: &Findings) -> Status
 
 /// Writes all that keeps a deck from having a bound, and what is lacking.
 pub fn tell_findings<O: Output>(out: &mut O, findings: &Findings, lacking: &Lacking) -> Status
-    requires called { O.called out.old ≤ 2 ^ 62 }
-    requires right { words_in lacking.now ≡ words_altered (found_in findings.now) }
-    ensures { GetsResult (device (O.written out.old) (O.failed out.old))
-        (device (O.written out.new) (O.failed out.new))
+    requires { words_in lacking.now ≡ words_altered (found_in findings.now) }
+    ensures { GetsResult (O.device out.old) (O.device out.new)
         (check_text (is_long_in findings.now) (found_in findings.now))
         (status_after_check (found_in findings.now)) result }
 {
-    ended(findings.list(lacking, out), status_of(findings))
+    let mut sheet = Sheet::new();
+    findings.put(&mut sheet, out, lacking);
+    end_result(sheet, out, status_of(findings))
 }

@@ -6,7 +6,8 @@ ghost use Rattle.drum_lines.specs.FaultStatus.{failed_reads};
 ghost use Rattle.drum_documents.specs.Asked.{AsksFor, Looks, all_named_in, fault_in, files_sought};
 ghost use Rattle.drum_documents.specs.Asked.{name_in, named_in, named_with};
 ghost use Rattle.drum_documents.specs.Files.{AreTold, Contents};
-ghost use Rattle.drum_lines.specs.Output.{Device, Tells, device};
+ghost use Rattle.drum_devices.specs.Device.{Device};
+ghost use Rattle.drum_lines.specs.Output.{Tells};
 ghost use Rattle.drum_lines.specs.Reply.{Reply, TellsOfReads};
 ghost use Rattle.drum_tool.specs.Commands as said;
 ghost use Rattle.drum_tool.specs.Commands.{AnswersCommand};
@@ -46,8 +47,7 @@ fn answer_of_files<S: Source, O: Output>(
     requires out { O.called out.old ≤ 2 ^ 62 }
     ensures does { (err : Device)
         → DoesCommand (commands.Answer question files.entry) (S.files source.old)
-        (device (O.written out.old) (O.failed out.old))
-        (device (O.written out.new) (O.failed out.new)) err err result }
+        (O.device out.old) (O.device out.new) err err result }
     ensures spared { IfErr result (λ _. out.new ≡ out.old) }
     ensures counted { S.failed source.new ≡ S.failed source.old + failed_reads result }
     ensures asked { AsksFor (S.asked source.old) (S.asked source.new)
@@ -68,12 +68,9 @@ fn check_files<S: Source, O: Output, E: Output>(
 ) -> Result<Status, Fault>
     requires source { S.failed source.old ≤ 2 ^ 61 }
     requires out { O.called out.old ≤ 2 ^ 62 }
-    requires err { E.called err.old ≤ 2 ^ 62 }
     ensures does { DoesCommand (commands.Check files.entry name.entry) (S.files source.old)
-        (device (O.written out.old) (O.failed out.old))
-        (device (O.written out.new) (O.failed out.new))
-        (device (E.written err.old) (E.failed err.old))
-        (device (E.written err.new) (E.failed err.new)) result }
+        (O.device out.old) (O.device out.new)
+        (E.device err.old) (E.device err.new) result }
     ensures spared { IfErr result (λ _. (out.new ≡ out.old) × (err.new ≡ err.old)) }
     ensures counted { S.failed source.new ≡ S.failed source.old + failed_reads result }
     ensures asked { AsksFor (S.asked source.old) (S.asked source.new)
@@ -99,8 +96,7 @@ fn replay_files<S: Source, O: Output>(
     requires out { O.called out.old ≤ 2 ^ 62 }
     ensures does { (err : Device)
         → DoesCommand (commands.Replay files.entry inputs.entry) (S.files source.old)
-        (device (O.written out.old) (O.failed out.old))
-        (device (O.written out.new) (O.failed out.new)) err err result }
+        (O.device out.old) (O.device out.new) err err result }
     ensures spared { IfErr result (λ _. out.new ≡ out.old) }
     ensures counted { S.failed source.new ≡ S.failed source.old + failed_reads result }
     ensures asked { AsksFor (S.asked source.old) (S.asked source.new)
@@ -135,8 +131,7 @@ fn trace_files<S: Source, O: Output>(
     requires out { O.called out.old ≤ 2 ^ 62 }
     ensures does { (err : Device)
         → DoesCommand (commands.Trace files.entry inputs.entry) (S.files source.old)
-        (device (O.written out.old) (O.failed out.old))
-        (device (O.written out.new) (O.failed out.new)) err err result }
+        (O.device out.old) (O.device out.new) err err result }
     ensures spared { IfErr result (λ _. out.new ≡ out.old) }
     ensures counted { S.failed source.new ≡ S.failed source.old + failed_reads result }
     ensures asked { AsksFor (S.asked source.old) (S.asked source.new)
@@ -159,8 +154,7 @@ fn draw_files<S: Source, O: Output>(
     requires out { O.called out.old ≤ 2 ^ 62 }
     ensures does { (err : Device)
         → DoesCommand (commands.DrawRun files.entry inputs.entry) (S.files source.old)
-        (device (O.written out.old) (O.failed out.old))
-        (device (O.written out.new) (O.failed out.new)) err err result }
+        (O.device out.old) (O.device out.new) err err result }
     ensures spared { IfErr result (λ _. out.new ≡ out.old) }
     ensures counted { S.failed source.new ≡ S.failed source.old + failed_reads result }
     ensures asked { AsksFor (S.asked source.old) (S.asked source.new)
@@ -187,12 +181,9 @@ fn try_command<S: Source, O: Output, E: Output>(
 ) -> Result<Status, Fault>
     requires source { S.failed source.old ≤ 2 ^ 61 }
     requires out { O.called out.old ≤ 2 ^ 62 }
-    requires err { E.called err.old ≤ 2 ^ 62 }
     ensures does { DoesCommand command.entry (S.files source.old)
-        (device (O.written out.old) (O.failed out.old))
-        (device (O.written out.new) (O.failed out.new))
-        (device (E.written err.old) (E.failed err.old))
-        (device (E.written err.new) (E.failed err.new)) result }
+        (O.device out.old) (O.device out.new)
+        (E.device err.old) (E.device err.new) result }
     ensures spared { IfErr result (λ _. (out.new ≡ out.old) × (err.new ≡ err.old)) }
     ensures counted { S.failed source.new ≡ S.failed source.old + failed_reads result }
     ensures asked { AsksFor (S.asked source.old) (S.asked source.new)
@@ -221,13 +212,10 @@ pub fn run_command<S: Source, O: Output, E: Output>(
 ) -> Status
     requires source { S.failed source.old ≤ 2 ^ 61 }
     requires out { O.called out.old ≤ 2 ^ 62 }
-    requires err { E.called err.old ≤ 2 ^ 62 }
     ensures counted { S.failed source.old ≤ S.failed source.new }
     ensures told { (reply : Reply)
-        × Tells reply (device (O.written out.old) (O.failed out.old))
-        (device (O.written out.new) (O.failed out.new))
-        (device (E.written err.old) (E.failed err.old))
-        (device (E.written err.new) (E.failed err.new)) result
+        × Tells reply (O.device out.old) (O.device out.new)
+        (E.device err.old) (E.device err.new) result
         × ((failures : ℕ) → S.failed source.new ≡ S.failed source.old + failures
         → TellsOfReads failures reply
         × ((held : Contents)

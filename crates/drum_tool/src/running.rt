@@ -5,9 +5,8 @@ ghost use Rattle.std.specs.Prelude.{IfErr, IfSome, IsErrOf, length};
 ghost use Rattle.clap.specs.Walk.{texts};
 ghost use Rattle.drum_lines.specs.FaultStatus.{failed_reads, reads_failed};
 ghost use Rattle.drum_documents.specs.Joined.{IsPastLimit};
-ghost use Rattle.drum_lines.specs.Output.{Tells, device};
+ghost use Rattle.drum_lines.specs.Output.{Tells};
 ghost use Rattle.drum_lines.specs.Reply.{Reply, TellsOfReads, bound_reply, fault_reply};
-ghost use Rattle.drum_command.specs.Refusal.{IsShort};
 ghost use Rattle.drum_tool.specs.Commands.{AnswersJoined};
 ghost use Rattle.drum_tool.specs.Words.{Answers, Asks, ReadsAll, refused_reply};
 
@@ -57,13 +56,9 @@ pub fn run_joined<I: Input, O: Output, E: Output>(
     err: &mut E,
 ) -> Status
     requires input { I.called input.old ≤ 2 ^ 62 }
-    requires out { O.called out.old ≤ 2 ^ 62 }
-    requires err { E.called err.old ≤ 2 ^ 62 }
     ensures told { (reply : Reply)
-        × Tells reply (device (O.written out.old) (O.failed out.old))
-        (device (O.written out.new) (O.failed out.new))
-        (device (E.written err.old) (E.failed err.old))
-        (device (E.written err.new) (E.failed err.new)) result
+        × Tells reply (O.device out.old) (O.device out.new)
+        (E.device err.old) (E.device err.new) result
         × ((failures : ℕ) → I.failed input.new ≡ I.failed input.old + failures
         → TellsOfReads failures reply
         × ((bytes : List ℕ) → I.unread input.old ≡ Some bytes
@@ -87,14 +82,9 @@ pub fn run_joined<I: Input, O: Output, E: Output>(
 
 /// Writes why words name no command: help to `out`, all else to `err`.
 fn refuse<O: Output, E: Output>(out: &mut O, err: &mut E, refused: &Refused) -> Status
-    requires out { O.called out.old ≤ 2 ^ 62 }
-    requires err { E.called err.old ≤ 2 ^ 62 }
-    requires short { IsShort refused.now }
     ensures { Tells (refused_reply refused.now)
-        (device (O.written out.old) (O.failed out.old))
-        (device (O.written out.new) (O.failed out.new))
-        (device (E.written err.old) (E.failed err.old))
-        (device (E.written err.new) (E.failed err.new)) result }
+        (O.device out.old) (O.device out.new)
+        (E.device err.old) (E.device err.new) result }
 {
     match refused {
         Refused::Help(text) => tell_text(out, text.as_bytes()),
@@ -118,12 +108,9 @@ pub fn run<'a, S: Source, I: Input, O: Output, E: Output>(
     requires source { S.failed source.old ≤ 2 ^ 61 }
     requires input { I.called input.old ≤ 2 ^ 62 }
     requires out { O.called out.old ≤ 2 ^ 62 }
-    requires err { E.called err.old ≤ 2 ^ 62 }
     ensures told { (reply : Reply)
-        × Tells reply (device (O.written out.old) (O.failed out.old))
-        (device (O.written out.new) (O.failed out.new))
-        (device (E.written err.old) (E.failed err.old))
-        (device (E.written err.new) (E.failed err.new)) result
+        × Tells reply (O.device out.old) (O.device out.new)
+        (E.device err.old) (E.device err.new) result
         × ((failures : ℕ) → I.failed input.new + S.failed source.new
         ≡ I.failed input.old + S.failed source.old + failures
         → TellsOfReads failures reply

@@ -125,12 +125,11 @@ pub fn bound_of_files<O: Output, E: Output>(
 ) -> Status
     requires names { AreNames (deck.now ∷ times.now ∷ notes.now ∷ []) }
     requires out { O.called out.old ≤ 2 ^ 62 }
-    requires err { E.called err.old ≤ 2 ^ 62 }
     ensures printed { result ≡ Status.Done → (bound : ℕ)
         × IsBoundOfFiles (text_of files.now deck.now) (text_of files.now times.now)
         (text_of files.now notes.now) bound
-        × Appends (O.written out.old) (O.written out.new) (bound_text bound)
-        × (O.failed out.new ≡ O.failed out.old) }
+        × Appends (O.device out.old).written (O.device out.new).written (bound_text bound)
+        × ((O.device out.new).failures ≡ (O.device out.old).failures) }
 {
     bound_is_of_the_files();
     no_fault_is_done();

@@ -2,7 +2,7 @@ use Rattle.std.proofs.Common.{List, ℕ, inl, inr, refl, subst}
 use Rattle.std.specs.Prelude.{string_bytes}
 use Rattle.drum_documents.specs.declared.documents.Documents.{Documents}
 use Rattle.drum_lines.specs.declared.status.Status.TheVariants.{Done}
-use Rattle.drum_lines.specs.Output.{GetsResult, device}
+use Rattle.drum_lines.specs.Output.{GetsResult}
 use Rattle.drum_answers.specs.declared.basis.Basis.{Basis}
 use Rattle.drum_answers.specs.declared.basis.Basis.TheVariants.{Bound, Ceiling}
 use Rattle.drum_answers.specs.Basis.{IsBasis}
@@ -19,8 +19,8 @@ said documents (Ceiling bracket) text is = inr (is.0, bracket, is.1, (text, refl
 pub returns-in-Ok-clause-does : goal.returns-in-Ok-clause-does
 returns-in-Ok-clause-does g c err =
     let text = string_bytes c.in-Ok.text in
-    let old = device (g.O.Output.written c.args.out.now) (g.O.Output.failed c.args.out.now) in
-    let new = device (g.O.Output.written c.tell_text.new.out) (g.O.Output.failed c.tell_text.new.out) in
+    let old = g.O.Output.device c.args.out.now in
+    let new = g.O.Output.device c.tell_text.new.out in
     let gets =
     subst (λ (said : List ℕ). GetsResult old new said Done c.tell_text.result) c.as_bytes.ensures.value
     c.tell_text.ensures in (

@@ -3,7 +3,7 @@ use Rattle.drum_times.specs.Entries.{entry_in}
 use Rattle.drum_rounds.specs.InRounds as walks
 use Rattle.drum_ceiling.specs.CeilingOf.{total_of}
 use Rattle.drum_lines.specs.declared.status.Status.TheVariants.{Done}
-use Rattle.drum_lines.specs.Output.{GetsResult, device}
+use Rattle.drum_lines.specs.Output.{GetsResult}
 use Rattle.drum_lines.proofs.NoLine.{no_line}
 use Rattle.drum_hop_lines.specs.declared.waited.Waited.{Waited}
 use Rattle.drum_hop_lines.specs.KindsOf.{waited_line}
@@ -37,8 +37,8 @@ returns-clause-does g c err =
       inr (c.requires.none, bracket, c.requires.right, (visits, out, waits.0, waits.1, refl)),
       no_line _ _,
       (
-        subst (λ (text : List ℕ). GetsResult (device (g.O.Output.written c.args.out.now) (g.O.Output.failed c.args.out.now))
-            (device (g.O.Output.written c.tell_rounds_waits.new.out) (g.O.Output.failed c.tell_rounds_waits.new.out))
+        subst (λ (text : List ℕ). GetsResult (g.O.Output.device c.args.out.now)
+            (g.O.Output.device c.tell_rounds_waits.new.out)
             text Done c.tell_rounds_waits.result)
             (ap (λ (lines : List ℕ). lines ++ waited_line reached c.in_ok-waits.waits.waited ++ totals) waits.2
             ∙ ap (λ (waited : Waited). kinds ++ waited_line reached waited ++ totals) waits.3)

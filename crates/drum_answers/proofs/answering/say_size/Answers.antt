@@ -3,7 +3,7 @@ use Rattle.drum_deck.specs.InDeck.{loads_in}
 use Rattle.drum_bound.specs.AnalysisOf.{rows_of}
 use Rattle.drum_flow.specs.Accepted.{counts_of}
 use Rattle.drum_lines.specs.declared.status.Status.TheVariants.{Done}
-use Rattle.drum_lines.specs.Output.{GetsResult, device}
+use Rattle.drum_lines.specs.Output.{GetsResult}
 use Rattle.drum_lines.proofs.NoLine.{no_line}
 use Rattle.drum_listing.specs.SizeText.{hops_among, size_text}
 use Rattle.drum_answers.specs.Says.{size_reply}
@@ -24,8 +24,8 @@ returns-clause-does g c err =
     ∙ ap (λ (n : ℕ). size_text words n size.counts size.keys) right.hops
     ∙ ap (λ (n : ℕ). size_text words hops n size.keys) (right.counts ∙ is.counts)
     ∙ ap (size_text words hops (counts_of documents.notes.marks)) right.keys in
-    let old = device (g.O.Output.written c.args.out.now) (g.O.Output.failed c.args.out.now) in
-    let new = device (g.O.Output.written c.tell_text.new.out) (g.O.Output.failed c.tell_text.new.out) in
+    let old = g.O.Output.device c.args.out.now in
+    let new = g.O.Output.device c.tell_text.new.out in
     let gets =
     subst (λ (said : List ℕ). GetsResult old new said Done c.tell_text.result) (c.deref.ensures.value ∙ told)
     c.tell_text.ensures in (

@@ -30,7 +30,7 @@ command_in-requires c =
 pub returns-in-Err-clause-taken : goal.returns-in-Err-clause-taken
 returns-in-Err-clause-taken c taken =
     let taken_line = ap (λ (a : App). takes a (texts c.args.words.now)) c.in-Ok.ensures ∙ taken in
-    fits_memory _ _ c.refused_by.ensures.fits (c.in-Err.ensures.passes taken_line)
+    fits_memory _ _ c.refused_by.ensures (c.in-Err.ensures.passes taken_line)
 
 pub returns-in-Err-clause-kinds : goal.returns-in-Err-clause-kinds
 returns-in-Err-clause-kinds c =
@@ -38,7 +38,7 @@ returns-in-Err-clause-kinds c =
     let words = texts c.args.words.now in
     let has = c.in-Err.ensures.kinds (ap is_simple_and_free line_is ∙ drum650_is_free) in
     let here = subst (λ (a : App). HasKind (fault_of a words) c.in-Err.error) line_is has in
-    fits_among _ c.in-Err.error _ here c.refused_by.ensures.fits
+    fits_among _ c.in-Err.error _ here c.refused_by.ensures
 
 pub returns-in-Ok-try_get_matches_from-clause-lines : goal.returns-in-Ok-try_get_matches_from-clause-lines
 returns-in-Ok-try_get_matches_from-clause-lines c files k d within is =
@@ -68,4 +68,4 @@ returns-in-Err-clause-lines c files k d within is =
     let words = texts c.args.words.now in
     let taken = (line_of words files (slice_index_or verbs k d) (all_lines k d within) is).0 in
     let taken_line = ap (λ (a : App). takes a words) c.in-Ok.ensures ∙ taken in
-    fits_memory _ _ c.refused_by.ensures.fits (c.in-Err.ensures.passes taken_line)
+    fits_memory _ _ c.refused_by.ensures (c.in-Err.ensures.passes taken_line)

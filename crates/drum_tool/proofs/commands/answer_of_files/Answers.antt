@@ -6,7 +6,7 @@ use Rattle.drum_documents.specs.Asked.{named_in}
 use Rattle.drum_documents.specs.Files.{AreHeld, AreNotHeld, AreTold, Contents}
 use Rattle.drum_toml.specs.declared.notes.notes_read.NotesRead.{NotesRead}
 use Rattle.drum_tool.specs.Commands.{read_for}
-use Rattle.drum_lines.specs.Output.{device}
+use Rattle.drum_devices.specs.Device.{device}
 use Rattle.drum_tool.proofs.Looking.{of_file, of_result}
 use Rattle.drum_tool.proofs.Doing.{does_as, faults_as}
 use Rattle.drum_tool.proofs.OfNoFile.{of_no_part, question_of_none, unread}

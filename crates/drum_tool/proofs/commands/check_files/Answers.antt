@@ -3,7 +3,7 @@
 use Rattle.std.proofs.Common.{Bool, List, ℕ, Option, inl, inr, refl, sym, subst, arith}
 use Rattle.std.proofs.lemmas.Result.{err_from_is_err_and}
 use Rattle.std.specs.Prelude.{option_map}
-use Rattle.drum_lines.specs.Output.{GetsComplaint, GetsResult, device}
+use Rattle.drum_lines.specs.Output.{GetsComplaint, GetsResult}
 use Rattle.drum_lines.specs.Reply.{lists}
 use Rattle.drum_lines.proofs.NoLine.{no_line, no_line_of_lists}
 use Rattle.drum_finding.specs.Lacking.{check_text}
@@ -48,8 +48,8 @@ returns-in-Faulty-clause-does g c =
     let inputs = option_map named c.named_inputs.result in
     let read : Texts × Option Named = (texts_in c.in_ok-texts.texts, inputs) in
     let lines = c.in-Faulty.lines.items in
-    let old = device (g.E.Output.written c.args.err.now) (g.E.Output.failed c.args.err.now) in
-    let new = device (g.E.Output.written c.tell_faults.new.err) (g.E.Output.failed c.tell_faults.new.err) in
+    let old = g.E.Output.device c.args.err.now in
+    let new = g.E.Output.device c.tell_faults.new.err in
     let gets = subst (λ (text : List ℕ). GetsComplaint old new text) c.deref.ensures.value c.tell_faults.ensures.lines in
     let faulty : IsChecked c.args.files read.0 inputs (Faulty c.in-Faulty.lines) =
     subst (λ (one : Checked). IsChecked c.args.files read.0 inputs one) c.in-Faulty.is c.in_ok-checked.ensures.checked in (
@@ -71,8 +71,8 @@ returns-clause-does g c =
     let found = found_in c.in-Sound.findings in
     let sound : IsChecked c.args.files read.0 inputs (Sound c.in-Sound.findings c.in-Sound.lacking) =
     subst (λ (one : Checked). IsChecked c.args.files read.0 inputs one) c.in-Sound.is c.in_ok-checked.ensures.checked in
-    let old = device (g.O.Output.written c.args.out.now) (g.O.Output.failed c.args.out.now) in
-    let new = device (g.O.Output.written c.tell_findings.new.out) (g.O.Output.failed c.tell_findings.new.out) in
+    let old = g.O.Output.device c.args.out.now in
+    let new = g.O.Output.device c.tell_findings.new.out in
     let gets =
     subst (λ (long : Bool). GetsResult old new (check_text long found) (status_after_check found) c.tell_findings.result)
     sound.3 c.tell_findings.ensures in (

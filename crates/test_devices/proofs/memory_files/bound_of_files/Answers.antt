@@ -3,7 +3,7 @@
 -- of what they hold.
 use Rattle.std.proofs.Common.{◌≡◌, ℕ, ◌+◌, List, None, Some, ap, sym, ◌∙◌, subst, inl, inr, arith}
 use Rattle.drum_lines.specs.declared.status.Status.TheVariants.{Done, Failed}
-use Rattle.drum_lines.specs.Output.{Tells, device}
+use Rattle.drum_lines.specs.Output.{Tells}
 use Rattle.drum_lines.specs.Reply.{Reply}
 use Rattle.test_devices.specs.MemoryFiles.{text_of}
 use Rattle.test_devices.specs.declared.memory_files.File.{File}
@@ -27,10 +27,10 @@ returns g c = record {
       let held = held_by c.args.files.now c.args.deck.now c.args.times.now c.args.notes.now in
       let told_of = λ (sought : ℕ) (name : List ℕ). Some (text_of c.of-source.result.files.now name) in
       let same = λ (name : List ℕ). ap (λ (files : List File). Some (text_of files name)) c.of-source.ensures.files in
-      let out = device (g.O.Output.written c.args.out.now) (g.O.Output.failed c.args.out.now) in
-      let out' = device (g.O.Output.written c.run.new.out) (g.O.Output.failed c.run.new.out) in
-      let err = device (g.E.Output.written c.args.err.now) (g.E.Output.failed c.args.err.now) in
-      let err' = device (g.E.Output.written c.run.new.err) (g.E.Output.failed c.run.new.err) in
+      let out = g.O.Output.device c.args.out.now in
+      let out' = g.O.Output.device c.run.new.out in
+      let err = g.E.Output.device c.args.err.now in
+      let err' = g.E.Output.device c.run.new.err in
       let tells = λ (reply : Reply). Tells reply out out' err err' c.run.result in
       elim (c.bound_is_of_the_files.ensures c.args.deck.now c.args.times.now c.args.notes.now None told_of failures told.0 held
       c.requires.names (same c.args.deck.now, (same c.args.times.now, (same c.args.notes.now, tt))) so.1) [
