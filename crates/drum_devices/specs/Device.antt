@@ -1,7 +1,7 @@
 -- What a device tells of its calls.
 use Rattle.std.specs.Borrow.{Bor}
-use Rattle.std.specs.Prelude.{ℕ, ◌+◌, ◌-◌, ◌^◌, ◌==◌, ◌&&◌, min, Bool, true, false, List, flat_map, length}
-use Rattle.std.specs.Prelude.{not, Option, Result, Ok, Err}
+use Rattle.std.specs.Prelude.{ℕ, ◌+◌, ◌-◌, ◌^◌, ◌==◌, ◌&&◌, min, Bool, true, false, List, flat_map}
+use Rattle.std.specs.Prelude.{length, not, Option, Result, Ok, Err}
 
 -- what a device was given, where that is known, and how many writes to it failed
 pub record Device : Type 0 where

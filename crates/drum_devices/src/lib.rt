@@ -7,9 +7,8 @@
 //!
 //! Definitions: `Device` is what a device tells of its calls.
 //!
-//! Proofs. These have laws that other crates use: `Bytes`, of writes one after the other; `Counts`,
-//! of counts that stay at the most; `Handed`,
-//! what a `?` hands on.
+//! Proofs. These have laws that other crates use: `Bytes`, of writes one after the other; `Handed`,
+//! what a `?` hands on. `Counts` is of counts that stay at the most.
 #![tactic(auto)]
 
 mod failed;

@@ -44,8 +44,8 @@ Stands begun now sheet text = stands sheet.is_lost begun now sheet text
 abbrev pub IsBlank : Sheet → Type 0
 IsBlank sheet = (now : Device) → Stands now now sheet []
 
--- Behind all that was put on a sheet this was put: where the one text stood before, the other stands
--- after.
+-- Behind all that was put on a sheet this was put: where the one text stood before, the other
+-- stands after.
 pub record Passes (before : Device) (sheet : Sheet) (after : Device) (sheet' : Sheet)
     (more : List ℕ) : Type 0 where
   pub stands : (begun : Device) (text : List ℕ) → Stands begun before sheet text
