@@ -1,9 +1,8 @@
--- What a sheet holds back goes out, or more is put on it.
+-- What a sheet holds back goes out.
 use Rattle.std.proofs.Common.{◌≡◌, ℕ, ◌+◌, ◌<◌, List, [], ◌++◌, length, take, append_assoc, append-nil, length-append}
-use Rattle.std.proofs.Common.{sym, ap, ◌∙◌, subst, arith, Bool, true, false, Result, Ok, Err, refl}
+use Rattle.std.proofs.Common.{sym, ap, ◌∙◌, subst, arith, true, false, Result, Ok, Err}
 use Rattle.std.specs.Prelude.{OnOk, IfErr, is_err}
 use Rattle.std.specs.Io.KnownBytes.{Appends}
-use Rattle.std.proofs.lemmas.List.{take-append-le}
 use Rattle.drum_devices.specs.declared.pieces.Unsent.{Unsent}
 use Rattle.drum_devices.specs.Device.{Device, failures_after, one_more}
 use Rattle.drum_devices.proofs.Bytes.{Appends-then, take_behind}
@@ -12,54 +11,17 @@ use Rattle.drum_sheet.specs.Gets.{GetsAll}
 use Rattle.drum_sheet.specs.Stands.{IsCut, IsUnderWay, Passes, Stands, counted, gone_of, held_by}
 
 -- how a text stands where a write has failed, and where none has
-pub when_lost : (begun now : Device) (sheet : Sheet) (text : List ℕ) → sheet.is_lost ≡ true → IsCut begun now sheet text
+when_lost : (begun now : Device) (sheet : Sheet) (text : List ℕ) → sheet.is_lost ≡ true → IsCut begun now sheet text
     → Stands begun now sheet text
 when_lost begun now sheet text lost p = rw lost p
 
-pub when_not : (begun now : Device) (sheet : Sheet) (text : List ℕ) → sheet.is_lost ≡ false
+when_not : (begun now : Device) (sheet : Sheet) (text : List ℕ) → sheet.is_lost ≡ false
     → IsUnderWay begun now sheet text → Stands begun now sheet text
 when_not begun now sheet text lost p = rw lost p
 
-pub is_cut : (begun now : Device) (sheet : Sheet) (text : List ℕ) → sheet.is_lost ≡ true → Stands begun now sheet text
-    → IsCut begun now sheet text
-is_cut begun now sheet text lost p = rw lost at p
-
-pub is_under_way : (begun now : Device) (sheet : Sheet) (text : List ℕ) → sheet.is_lost ≡ false
+is_under_way : (begun now : Device) (sheet : Sheet) (text : List ℕ) → sheet.is_lost ≡ false
     → Stands begun now sheet text → IsUnderWay begun now sheet text
 is_under_way begun now sheet text lost p = rw lost at p
-
--- where a write has failed nothing more goes out
-pub lost_passes : (now : Device) (sheet sheet' : Sheet) (more : List ℕ) → sheet.is_lost ≡ true → sheet'.is_lost ≡ true
-    → sheet'.sent ≡ sheet.sent → Passes now sheet now sheet' more
-lost_passes now sheet sheet' more lost lost' same = record {
-  stands = λ begun text so_far.
-      let p = is_cut begun now sheet text lost so_far in
-      when_lost begun now sheet' (text ++ more) lost' (
-        p.0,
-        omega (arith, p.1, length-append text more),
-        subst (Appends begun.written now.written) (sym (take-append-le p.0 text more (omega (arith, p.1)))) p.2,
-        p.3,
-        same ∙ p.4,
-      );
-}
-
--- bytes that are held back too
-pub held_passes : (now : Device) (sheet sheet' : Sheet) (more : List ℕ) → sheet'.is_lost ≡ sheet.is_lost
-    → sheet'.sent ≡ sheet.sent → held_by sheet' ≡ held_by sheet ++ more → Passes now sheet now sheet' more
-held_passes now sheet sheet' more lost same held =
-    elim sheet.is_lost as (λ b. sheet.is_lost ≡ b → Passes now sheet now sheet' more) [
-      | true ↦ λ is. lost_passes now sheet sheet' more is (lost ∙ is) same
-      | false ↦ λ is. record {
-        stands = λ begun text so_far.
-            let p = is_under_way begun now sheet text is so_far in
-            when_not begun now sheet' (text ++ more) (lost ∙ is) (
-              p.0,
-              p.1,
-              ap (λ xs. p.0 ++ xs) held ∙ sym (append_assoc p.0 (held_by sheet) more) ∙ ap (λ xs. xs ++ more) p.2,
-              same ∙ p.3,
-            );
-      }
-    ] refl
 
 -- a whole text is what has gone out, what was held back, and what is behind them
 whole : (gone held more text : List ℕ) → gone ++ held ≡ text → gone ++ (held ++ more) ≡ text ++ more
@@ -70,7 +32,7 @@ none_held : (sheet : Sheet) → sheet.held ≡ 0 → held_by sheet ≡ []
 none_held sheet none = ap (λ n. take n sheet.bytes) none
 
 -- what was held back was written, and more behind it
-pub written_passes : (before after : Device) (sheet sheet' : Sheet) (more : List ℕ) (result : Result (Unit {0}) Unsent)
+written_passes : (before after : Device) (sheet sheet' : Sheet) (more : List ℕ) (result : Result (Unit {0}) Unsent)
     → sheet.is_lost ≡ false
     → OnOk result (Appends before.written after.written (held_by sheet ++ more))
     → IfErr result (λ error. Appends before.written after.written (take error.sent (held_by sheet ++ more)))
