@@ -1,9 +1,9 @@
 -- Bytes that go out in several writes.
 use Rattle.std.proofs.Common.{◌≡◌, ℕ, ◌+◌, ◌-◌, ◌≤◌, ◌<◌, List, [], ◌∷◌, ◌++◌, length, get_or, take, drop, flat_map}
-use Rattle.std.proofs.Common.{sym, ◌∙◌, ap, arith, append_assoc, length-append, Option, Some, None}
+use Rattle.std.proofs.Common.{sym, ◌∙◌, ap, arith, append_assoc, Option, Some, None}
 use Rattle.std.proofs.Math.Seq.{take-append_seam, drop-append_seam}
 use Rattle.std.proofs.lemmas.Grind.{flat_map-append}
-use Rattle.std.proofs.lemmas.List.{append-nil, take-append-le, take-take, take-append-drop, take_more, drop-take}
+use Rattle.std.proofs.lemmas.List.{append-nil, take-take, take-append-drop, take_more, drop-take}
 use Rattle.std.specs.Io.KnownBytes.{Appends}
 
 -- a prefix is a shorter prefix and what follows it
@@ -49,18 +49,3 @@ pub pieces_more : {X : Type 0} (f : X → List ℕ) (xs : List X) (i : ℕ) (d :
 pieces_more f xs i d within =
     ap (flat_map f) (take_more xs i d within) ∙ flat_map-append f (take i xs) (get_or xs i d ∷ [])
     ∙ ap (λ rest. flat_map f (take i xs) ++ rest) (append-nil (f (get_or xs i d)))
-
--- a prefix of pieces that ends within one of them
-pub prefix_of_pieces : {X : Type 0} (f : X → List ℕ) (xs : List X) (i n : ℕ) (d : X) → i < length xs
-    → n < length (f (get_or xs i d))
-    → take (length (flat_map f (take i xs)) + n) (flat_map f xs) ≡ flat_map f (take i xs) ++ take n (f (get_or xs i d))
-prefix_of_pieces f xs i n d within some =
-    let before = flat_map f (take i xs) in
-    let piece = f (get_or xs i d) in
-    let behind = flat_map f (drop (i + 1) xs) in
-    let whole : flat_map f xs ≡ (before ++ piece) ++ behind =
-    sym (ap (flat_map f) (take-append-drop (i + 1) xs)) ∙ flat_map-append f (take (i + 1) xs) (drop (i + 1) xs)
-    ∙ ap (λ prefix. prefix ++ behind) (pieces_more f xs i d within) in
-    let fits : length before + n ≤ length (before ++ piece) = omega (arith, length-append before piece) in
-    ap (take (length before + n)) whole ∙ take-append-le (length before + n) (before ++ piece) behind fits
-    ∙ take_behind n before piece

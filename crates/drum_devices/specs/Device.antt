@@ -1,6 +1,5 @@
 -- What a device tells of its calls.
-use Rattle.std.specs.Borrow.{Bor}
-use Rattle.std.specs.Prelude.{ℕ, ◌+◌, ◌-◌, ◌^◌, ◌==◌, ◌&&◌, min, Bool, true, false, List, flat_map}
+use Rattle.std.specs.Prelude.{ℕ, ◌+◌, ◌-◌, ◌^◌, ◌==◌, ◌&&◌, min, Bool, true, false, List}
 use Rattle.std.specs.Prelude.{length, not, Option, Result, Ok, Err}
 
 -- what a device was given, where that is known, and how many writes to it failed
@@ -39,7 +38,3 @@ gave_none (Err e) = true
 abbrev pub given_by : {E : Type 0} → Result ℕ E → ℕ
 given_by (Ok n) = n
 given_by (Err e) = 0
-
--- the bytes of pieces, one after the other
-abbrev pub joined : List (Bor (List ℕ)) → List ℕ
-joined pieces = flat_map (λ piece. piece.now) pieces

@@ -1,7 +1,12 @@
-ghost use Rattle.std.specs.Prelude.{◌≡◌, ◌+◌, ◌^◌, ◌<◌, ◌≤◌, ◌↔◌, ◌⊎◌, IfOk, IfSome, OnOk, IsErrOf};
-ghost use Rattle.std.specs.Prelude.{vec_len, length};
+//! Texts, read and written whole.
+
+ghost use Rattle.std.specs.Prelude.{◌≡◌, ◌+◌, ◌^◌, ◌<◌, ◌≤◌, ◌↔◌, ◌⊎◌, IfErr, IfOk, IfSome, OnOk};
+ghost use Rattle.std.specs.Prelude.{IsErrOf, vec_len, length, take};
+ghost use Rattle.std.specs.Io.KnownBytes.{Appends};
+ghost use Rattle.drum_devices.specs.Device.{failures_after};
 
 use crate::input::Input;
+use crate::output::Output;
 use std::alloc::Global;
 
 /// Why an input wasn't read as a whole.
@@ -71,4 +76,35 @@ pub fn read_whole<I: Input>(
         }
     }
     Err(WholeError::TooLong)
+}
+
+/// A write failed, or took no byte, after some bytes had gone out.
+#[derive(Clone, Copy, Debug, PartialEq, Eq)]
+pub struct Unsent {
+    /// How many bytes had gone out.
+    pub sent: usize,
+}
+
+/// Writes all of the bytes, in as many writes as that takes.
+///
+/// # Errors
+///
+/// Where a write fails or takes no byte, with the number of bytes that had gone out.
+pub fn write_whole<O: Output>(output: &mut O, bytes: &[u8]) -> Result<(), Unsent>
+    ensures all { OnOk result
+        (Appends (O.device output.old).written (O.device output.new).written bytes.now) }
+    ensures prefix { IfErr result (λ error. Appends (O.device output.old).written
+        (O.device output.new).written (take error.sent bytes.now)) }
+    ensures some { IfErr result (λ error. error.sent < length bytes.now) }
+    ensures failures { (O.device output.new).failures
+        ≡ failures_after result (O.device output.old).failures }
+{
+    let mut sent = 0;
+    while sent < bytes.len() {
+        match output.write(&bytes[sent..]) {
+            Ok(0) | Err(_) => return Err(Unsent { sent }),
+            Ok(count) => sent += count,
+        }
+    }
+    Ok(())
 }

@@ -1,10 +1,11 @@
 -- Texts that are put on a sheet one behind the other.
 use Rattle.std.proofs.Common.{◌≡◌, ℕ, ◌+◌, ◌<◌, List, [], ◌++◌, length, get_or, take, flat_map, append_assoc, append-nil}
-use Rattle.std.proofs.Common.{sym, subst}
+use Rattle.std.proofs.Common.{sym, subst, Bool, true}
 use Rattle.drum_devices.specs.Device.{Device}
 use Rattle.drum_devices.proofs.Bytes.{pieces_more}
 use Rattle.drum_sheet.specs.declared.sheet.Sheet.{Sheet}
-use Rattle.drum_sheet.specs.Stands.{Passes, Stands}
+use Rattle.drum_sheet.specs.Gets.{GetsPrefix}
+use Rattle.drum_sheet.specs.Stands.{IsCut, Passes, Stands, stands}
 
 -- nothing
 pub passes_none : (now : Device) (sheet : Sheet) → Passes now sheet now sheet []
@@ -35,6 +36,13 @@ pub passes_more : {X : Type 0} (text : X → List ℕ) (xs : List X) (index : �
 passes_more text xs index item {before} {between} {after} {sheet} {sheet'} {sheet″} within is p q =
     passes_as (sym (pieces_more text xs index item within))
     (p ⊳ subst (λ one. Passes between sheet' after sheet″ (text one)) is q)
+
+-- where a write has failed, a prefix has gone out
+pub prefix_of_lost : (begun now : Device) (sheet : Sheet) (text : List ℕ) → sheet.is_lost ≡ true
+    → Stands begun now sheet text → GetsPrefix begun now text
+prefix_of_lost begun now sheet text lost so_far =
+    let cut : IsCut begun now sheet text = subst (λ (is : Bool). stands is begun now sheet text) lost so_far in
+    (cut.0, cut.1, cut.2, cut.3)
 
 -- these laws together
 pub ruleset passing = (passes_none, ◌⊳◌)

@@ -3,11 +3,10 @@ use Rattle.std.proofs.Common.{◌≡◌, ℕ, ◌+◌, ◌<◌, List, [], ◌++�
 use Rattle.std.proofs.Common.{sym, ap, ◌∙◌, subst, arith, true, false, Result, Ok, Err}
 use Rattle.std.specs.Prelude.{OnOk, IfErr, is_err}
 use Rattle.std.specs.Io.KnownBytes.{Appends}
-use Rattle.drum_devices.specs.declared.pieces.Unsent.{Unsent}
+use Rattle.drum_devices.specs.declared.whole.Unsent.{Unsent}
 use Rattle.drum_devices.specs.Device.{Device, failures_after, one_more}
 use Rattle.drum_devices.proofs.Bytes.{Appends-then, take_behind}
 use Rattle.drum_sheet.specs.declared.sheet.Sheet.{Sheet}
-use Rattle.drum_sheet.specs.Gets.{GetsAll}
 use Rattle.drum_sheet.specs.Stands.{IsCut, IsUnderWay, Passes, Stands, counted, gone_of, held_by}
 
 -- how a text stands where a write has failed, and where none has

@@ -2,7 +2,7 @@
 use Rattle.std.specs.Prelude.{◌≡◌, ℕ, ◌-◌, ◌^◌, ◌<◌, List, [], ◌++◌, length, take, min, Bool, true}
 use Rattle.std.specs.Prelude.{false, Result, Ok, Err}
 use Rattle.std.specs.Io.KnownBytes.{Appends}
-use Rattle.drum_devices.specs.declared.pieces.Unsent.{Unsent}
+use Rattle.drum_devices.specs.declared.whole.Unsent.{Unsent}
 use Rattle.drum_devices.specs.Device.{Device, one_more}
 use Rattle.drum_sheet.specs.Gets.{GetsAll}
 use Rattle.drum_sheet.specs.declared.sheet.Sheet.{Sheet}
@@ -32,7 +32,7 @@ IsCut begun now sheet text =
     (count : ℕ) × (count < length text) × Appends begun.written now.written (take count text)
     × (now.failures ≡ one_more begun.failures) × (sheet.sent ≡ counted count)
 
-abbrev stands : Bool → Device → Device → Sheet → List ℕ → Type 0
+abbrev pub stands : Bool → Device → Device → Sheet → List ℕ → Type 0
 stands true = IsCut
 stands false = IsUnderWay
 

@@ -2,7 +2,7 @@
 //!
 //! Code. `sheet` is the sheet. Once a write has failed nothing more goes out, so what puts a text
 //! on it needn't ask each time: `finish` says at the end whether all has gone out, and else how
-//! much. It takes no memory.
+//! much. Who would go on for long asks `is_lost`. It takes no memory.
 //!
 //! Definitions, in the order to read them: `Gets` is what a device gets of a text. `Stands` is how
 //! a text stands that is partly out and partly on a sheet, and what it is to put more behind it.

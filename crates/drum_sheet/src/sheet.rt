@@ -121,6 +121,13 @@ impl Sheet {
         self.put(writer, buffer.format(number).as_bytes());
     }
 
+    /// Whether a write has failed: all that is put on it from then on is lost.
+    pub fn is_lost(&self) -> bool
+        ensures { result ≡ self.now.is_lost }
+    {
+        self.is_lost
+    }
+
     /// Writes what it still holds, and tells whether all that was put on it has gone out.
     ///
     /// # Errors

@@ -1,5 +1,5 @@
 -- Of turn: as many bytes are written as it holds.
-use Rattle.std.proofs.Common.{◌≡◌, ℕ, ◌+◌, List, length, take, arith, subst}
+use Rattle.std.proofs.Common.{◌≡◌, ℕ, ◌+◌, length, take, arith, subst}
 use Rattle.std.proofs.lemmas.List.{length-take}
 use Rattle.drum_sheet.specs.Stands.{counted, gone_of}
 use Rattle.drum_sheet.proofs.Turning.{turned_by}

@@ -1,8 +1,7 @@
 use Rattle.std.proofs.Common.{◌+◌, ◌≤◌, length, arith, rules}
 use Rattle.std.proofs.lemmas.Grind.{common_steps}
 use Rattle.drum_devices.proofs.Bytes.{Appends-more}
-use Rattle.drum_devices.proofs.Counts.{at_most_one_more}
-use Rattle.drum_devices.proofs.pieces.write_whole.Goals as goal
+use Rattle.drum_devices.proofs.whole.write_whole.Goals as goal
 
 pub loop-sent-preserved : goal.loop-sent-preserved
 loop-sent-preserved g c =
@@ -13,6 +12,5 @@ loop-sent-preserved g c =
       prefix =
           Appends-more _ (g.O.Output.device c.loop-sent.output).written _ c.loop-sent.sent c.in-Ok.count bytes within
           c.loop-sent.invariant.prefix c.in-Ok.ensures.bytes;
-      calls = omega (arith, at_most_one_more, c.loop-sent.invariant.calls);
       failed = grind (arith, common_steps);
     }

@@ -1,13 +1,12 @@
-use Rattle.std.proofs.Common.{◌≡◌, ◌+◌, ◌-◌, ◌≤◌, length, take}
+use Rattle.std.proofs.Common.{◌≡◌, ◌-◌, ◌≤◌, length, take}
 use Rattle.std.specs.Io.KnownBytes.{Appends}
-use Rattle.drum_devices.proofs.pieces.write_whole.Given as goal
+use Rattle.drum_devices.proofs.whole.write_whole.Given as goal
 
 -- the bytes so far have gone out, each call took some, and none failed
 abbrev pub invariant-loop-sent : goal.invariant-loop-sent
 invariant-loop-sent g l = record {
   within : l.sent ≤ length l.bytes;
   prefix : Appends (g.O.Output.device l.fn.output).written (g.O.Output.device l.output).written (take l.sent l.bytes);
-  calls : g.O.Output.called l.output ≤ g.O.Output.called l.fn.output + l.sent;
   failed : (g.O.Output.device l.output).failures ≡ (g.O.Output.device l.fn.output).failures;
 }
 
