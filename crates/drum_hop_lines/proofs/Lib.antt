@@ -1,12 +1,10 @@
 pub mod AddingUp
 pub mod DataAngles
-pub mod Gathers
 pub mod KindRows
 pub mod LaterMoments
 pub mod Lines
 pub mod NextAngles
 pub mod SameKinds
 pub mod Strides
-pub mod WaitLines
 pub mod Waiting
 pub mod WholeFits

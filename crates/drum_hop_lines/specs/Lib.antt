@@ -1,7 +1,6 @@
 pub mod HeldText
 pub mod Moments
 pub mod MomentsText
-pub mod Page
 pub mod Pieces
 pub mod StepOf
 pub mod TimedHop

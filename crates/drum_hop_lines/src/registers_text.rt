@@ -1,24 +1,21 @@
 //! The registers of a machine and its overflow latch, in the line of a step.
 
-ghost use Rattle.std.specs.Prelude.{◌≡◌, ◌+◌, ◌^◌, ◌≤◌, List, IfOk, length};
+ghost use Rattle.std.specs.Prelude.{◌≡◌, List};
 ghost use Rattle.drum_machine.specs.declared.card.Card.{Card};
 ghost use Rattle.drum_emulator.specs.Machine.{held_by};
-ghost use Rattle.drum_devices.specs.Device.{failures_after};
-ghost use Rattle.drum_lines.specs.Sent.{IsSent};
+ghost use Rattle.drum_sheet.specs.Stands.{Passes};
 ghost use Rattle.drum_hop_lines.specs.HeldText.{
   accumulator_text,
   latch_text as latch_of,
   registers_text,
+  remainder_text,
   sign as sign_of,
-};
-ghost use Rattle.drum_hop_lines.specs.Pieces.{
-  remainder_name as remainder_of,
-  remainder_sign as remainder_sign_of,
 };
 
 use drum_devices::Output;
 use drum_emulator::Machine;
-use drum_lines::{WriteFault, send, spelling_of};
+use drum_lines::spelling_of;
+use drum_sheet::Sheet;
 
 /// The sign of what is minus, or isn't.
 fn sign(minus: bool) -> u8
@@ -41,65 +38,36 @@ fn spelled(number: i128) -> [u8; 21]
     text
 }
 
-/// The name of a remainder's sign; nothing where none stands.
-fn remainder_name(remainder: Option<bool>) -> &'static [u8]
-    ensures name { result.now ≡ remainder_of remainder }
-    ensures short { length result.now ≤ 11 }
+/// Puts a remainder's sign, while it stands.
+#[tactic(auto, using(drum_sheet::proofs::Passing::passing))]
+fn put_remainder<O: Output>(sheet: &mut Sheet, writer: &mut O, remainder: Option<bool>)
+    ensures { Passes (O.device writer.old) sheet.old (O.device writer.new) sheet.new
+        (remainder_text remainder) }
 {
     match remainder {
-        Some(_) => b" remainder ",
-        None => b"",
-    }
-}
-
-/// A remainder's sign; nothing where none stands.
-fn remainder_sign(remainder: Option<bool>) -> &'static [u8]
-    ensures sign { result.now ≡ remainder_sign_of remainder }
-    ensures short { length result.now ≤ 1 }
-{
-    match remainder {
-        Some(true) => b"-",
-        Some(false) => b"+",
-        None => b"",
+        Some(true) => sheet.put(writer, b" remainder -"),
+        Some(false) => sheet.put(writer, b" remainder +"),
+        None => {}
     }
 }
 
 /// Whether the latch is on, as text.
 fn latch_text(latch: bool) -> &'static [u8]
-    ensures text { result.now ≡ latch_of latch }
-    ensures short { length result.now ≤ 10 }
+    ensures { result.now ≡ latch_of latch }
 {
     if latch { b" latch on" } else { b" latch off" }
 }
 
-/// Writes the registers of a machine and its latch, where `sent` bytes have gone out before, and
-/// returns how many have gone out then.
-pub fn send_registers<O: Output>(
-    writer: &mut O,
-    sent: usize,
-    machine: &Machine,
-) -> Result<usize, WriteFault>
-    requires called { O.called writer.old ≤ 2 ^ 62 + 2 ^ 61 }
-    requires few { sent ≤ 2 ^ 61 }
-    ensures sent { (cards : List Card) →
-        IsSent (O.device writer.old).written (O.device writer.new).written sent
-        result (registers_text (held_by machine.now cards)) }
-    ensures failures { (O.device writer.new).failures
-        ≡ failures_after result (O.device writer.old).failures }
-    ensures calls { O.called writer.new ≤ O.called writer.old + 90 }
-    ensures few { IfOk result (λ total. total ≤ sent + 90) }
+/// Puts the registers of a machine and its latch.
+pub fn put_registers<O: Output>(sheet: &mut Sheet, writer: &mut O, machine: &Machine)
+    ensures { (cards : List Card) →
+        Passes (O.device writer.old) sheet.old (O.device writer.new) sheet.new
+        (registers_text (held_by machine.now cards)) }
 {
-    let accumulator = spelled(machine.accumulator());
-    let distributor = spelling_of(machine.distributor());
-    let remainder = machine.remainder();
-    let pieces: [&[u8]; 7] = [
-        b" accumulator ",
-        &accumulator,
-        remainder_name(remainder),
-        remainder_sign(remainder),
-        b" distributor ",
-        &distributor,
-        latch_text(machine.latch()),
-    ];
-    send(writer, sent, &pieces)
+    sheet.put(writer, b" accumulator ");
+    sheet.put(writer, &spelled(machine.accumulator()));
+    put_remainder(sheet, writer, machine.remainder());
+    sheet.put(writer, b" distributor ");
+    sheet.put(writer, &spelling_of(machine.distributor()));
+    sheet.put(writer, latch_text(machine.latch()));
 }

@@ -1,36 +1,36 @@
 //! The line of a step.
 
-ghost use Rattle.std.specs.Prelude.{◌≡◌, ◌+◌, ◌^◌, ◌≤◌, ◌++◌, [], List, IfOk, length};
+ghost use Rattle.std.specs.Prelude.{◌≡◌, ◌^◌, ◌≤◌, ◌++◌, [], List};
 ghost use Rattle.drum_core.specs.declared.op.Op.{Op};
 ghost use Rattle.drum_times.specs.declared.entry.Entry.{Entry};
 ghost use Rattle.drum_times.specs.Entries.{entry_in};
 ghost use Rattle.drum_machine.specs.declared.card.Card.{Card};
 ghost use Rattle.drum_machine.specs.Ending.{stops_by};
 ghost use Rattle.drum_machine.specs.Run.{Stride};
-ghost use Rattle.drum_machine.specs.Step.{contents_after, fetched};
+ghost use Rattle.drum_machine.specs.Step.{fetched};
 ghost use Rattle.drum_machine.specs.WaysLeft.{seen_way};
 ghost use Rattle.drum_emulator.specs.Machine.{held_by};
 ghost use Rattle.drum_emulator.specs.Machine.{IsToldOf};
 ghost use Rattle.drum_flow.specs.RunHops.{hop_of};
 ghost use Rattle.drum_walks.specs.Visited.{visited};
-ghost use Rattle.drum_devices.specs.Device.{failures_after};
-ghost use Rattle.drum_lines.specs.Sent.{IsSent};
+ghost use Rattle.drum_sheet.specs.Stands.{Passes};
 ghost use Rattle.drum_hop_lines.specs.Pieces.{fetch_text, held_text, times_text};
+ghost use Rattle.drum_hop_lines.specs.StepOf.{IsStepOf};
 ghost use Rattle.drum_hop_lines.specs.TimedHop.{seen_timed};
 ghost use Rattle.drum_hop_lines.specs.TraceText.{stride_line};
 
-use crate::acted::send_acted;
+use crate::acted::put_acted;
 use crate::moments::Moments;
-use crate::moments_text::send_times;
-use crate::registers_text::send_registers;
+use crate::moments_text::put_times;
+use crate::registers_text::put_registers;
 use crate::timed_hop::TimedHop;
 use drum_core::{Instruction, Location, Word};
 use drum_devices::Output;
 use drum_emulator::{Machine, Step};
-use drum_lines::{WriteFault, four_digits, send, spelling_of};
+use drum_lines::{put_location, spelling_of};
 use drum_machine::{Way, Why};
+use drum_sheet::Sheet;
 use drum_times::Times;
-use itoa::Buffer;
 
 /// How a step that stops ends.
 fn way_of(why: Why) -> Way
@@ -87,122 +87,80 @@ fn told_of(step: &Step, before: u64) -> TimedHop
     }
 }
 
-/// Writes the number of a step, where it begins, the word that it has fetched there, and when it
+/// Puts the number of a step, where it begins, the word that it has fetched there, and when it
 /// begins.
-fn send_fetch<O: Output>(
+fn put_fetch<O: Output>(
+    sheet: &mut Sheet,
     writer: &mut O,
-    sent: usize,
     number: u64,
     origin: Location,
     word: Word,
     begun: u64,
-) -> Result<usize, WriteFault>
-    requires called { O.called writer.old ≤ 2 ^ 62 + 2 ^ 60 }
-    requires few { sent ≤ 2 ^ 60 }
-    ensures sent { IsSent (O.device writer.old).written (O.device writer.new).written sent result
+)
+    ensures { Passes (O.device writer.old) sheet.old (O.device writer.new) sheet.new
         (fetch_text number origin.number word begun) }
-    ensures failures { (O.device writer.new).failures
-        ≡ failures_after result (O.device writer.old).failures }
-    ensures calls { O.called writer.new ≤ O.called writer.old + 100 }
-    ensures short { length (fetch_text number origin.number word begun) ≤ 100 }
 {
-    let mut digits = Buffer::new();
-    let mut before = Buffer::new();
-    let at = four_digits(origin.number());
-    let spelled = spelling_of(word);
-    let pieces: [&[u8]; 8] = [
-        b"step ",
-        digits.format(number).as_bytes(),
-        b" ",
-        &at,
-        b" ",
-        &spelled,
-        b" begun ",
-        before.format(begun).as_bytes(),
-    ];
-    send(writer, sent, &pieces)
+    sheet.put(writer, b"step ");
+    sheet.put_number(writer, number);
+    sheet.put(writer, b" ");
+    put_location(sheet, writer, origin);
+    sheet.put(writer, b" ");
+    sheet.put(writer, &spelling_of(word));
+    sheet.put(writer, b" begun ");
+    sheet.put_number(writer, begun);
 }
 
-/// Writes the number of a step, what it has fetched where, when it begins, its moments and when it
+/// Puts the number of a step, what it has fetched where, when it begins, its moments and when it
 /// ends.
-fn send_course<O: Output>(
+#[tactic(auto, using(drum_sheet::proofs::Passing::passing))]
+fn put_course<O: Output>(
+    sheet: &mut Sheet,
     writer: &mut O,
-    sent: usize,
     number: u64,
     word: Word,
     told: &TimedHop,
     moments: &Moments,
-) -> Result<usize, WriteFault>
-    requires called { O.called writer.old ≤ 2 ^ 62 + 2 ^ 60 }
-    requires few { sent ≤ 2 ^ 60 }
-    ensures sent { IsSent (O.device writer.old).written (O.device writer.new).written sent result
+)
+    ensures { Passes (O.device writer.old) sheet.old (O.device writer.new) sheet.new
         (fetch_text number told.now.place.number word told.now.begun
         ++ times_text moments.now told.now.ended []) }
-    ensures failures { (O.device writer.new).failures
-        ≡ failures_after result (O.device writer.old).failures }
-    ensures calls { O.called writer.new ≤ O.called writer.old + 300 }
-    ensures few { IfOk result (λ total. total ≤ sent + 300) }
 {
-    let sent = send_fetch(writer, sent, number, told.place, word, told.begun)?;
-    send_times(writer, sent, moments, told.ended, b"")
+    put_fetch(sheet, writer, number, told.place, word, told.begun);
+    put_times(sheet, writer, moments, told.ended, b"");
 }
 
-/// Writes what a machine holds after a step, with what the step did to words of the drum, and ends
+/// Puts what a machine holds after a step, with what the step did to words of the drum, and ends
 /// the line.
-fn send_held<O: Output>(
-    writer: &mut O,
-    sent: usize,
-    told: &TimedHop,
-    machine: &Machine,
-) -> Result<usize, WriteFault>
-    requires called { O.called writer.old ≤ 2 ^ 62 + 2 ^ 61 }
-    requires few { sent ≤ 2 ^ 61 }
-    ensures sent { (cards : List Card) →
-        IsSent (O.device writer.old).written (O.device writer.new).written sent
-        result (held_text (seen_timed told.now) (held_by machine.now cards)) }
-    ensures failures { (O.device writer.new).failures
-        ≡ failures_after result (O.device writer.old).failures }
-    ensures calls { O.called writer.new ≤ O.called writer.old + 300 }
-    ensures few { IfOk result (λ total. total ≤ sent + 300) }
+fn put_held<O: Output>(sheet: &mut Sheet, writer: &mut O, told: &TimedHop, machine: &Machine)
+    ensures { (cards : List Card) →
+        Passes (O.device writer.old) sheet.old (O.device writer.new) sheet.new
+        (held_text (seen_timed told.now) (held_by machine.now cards)) }
 {
-    let sent = send_registers(writer, sent, machine)?;
-    let sent = send_acted(writer, sent, told, machine.drum())?;
-    send(writer, sent, &[b"\n"])
+    put_registers(sheet, writer, machine);
+    put_acted(sheet, writer, told, machine.drum());
+    sheet.put(writer, b"\n");
 }
 
-/// Writes the line of a step where `sent` bytes have gone out before, and returns how many have
-/// gone out then. The step is the one of this number, on a drum with this angle at time 0, with
-/// `before` word times used before it; the machine is as it is after it.
-///
-/// # Errors
-///
-/// Where a write fails or takes no byte: then a prefix of the line has gone out, up to where the
-/// fault says.
-pub fn send_step<O: Output>(
+/// Puts the line of a step: the one of this number, on a drum with this angle at time 0, with
+/// `before` word times used before it. The machine is as it is after it.
+pub fn put_step<O: Output>(
+    sheet: &mut Sheet,
     writer: &mut O,
-    sent: usize,
     times: &Times,
     angle: u8,
     number: u64,
     before: u64,
     step: &Step,
     machine: &Machine,
-) -> Result<usize, WriteFault>
-    requires called { O.called writer.old ≤ 2 ^ 62 + 2 ^ 60 }
-    requires few { sent ≤ 2 ^ 60 }
-    requires early { before ≤ 2 ^ 62 }
-    ensures sent { (stride : Stride) → IsToldOf (entry_in times.now) stride step.now
-        → stride.origin.first_angle ≡ angle → stride.origin.time ≡ before
-        → (cards : List Card) → held_by machine.now cards ≡ contents_after stride.outcome
-        → IsSent (O.device writer.old).written (O.device writer.new).written sent result
+)
+    requires { before ≤ 2 ^ 62 }
+    ensures { (stride : Stride)
+        → IsStepOf (entry_in times.now) angle before step.now machine.now stride
+        → Passes (O.device writer.old) sheet.old (O.device writer.new) sheet.new
         (stride_line (entry_in times.now) number stride) }
-    ensures failures { (O.device writer.new).failures
-        ≡ failures_after result (O.device writer.old).failures }
-    ensures calls { O.called writer.new ≤ O.called writer.old + 1000 }
-    ensures few { IfOk result (λ total. total ≤ sent + 1000) }
 {
     let told = told_of(step, before);
     let moments = Moments::of(&told, times, angle);
-    let sent = send_course(writer, sent, number, word_of(step), &told, &moments)?;
-    send_held(writer, sent, &told, machine)
+    put_course(sheet, writer, number, word_of(step), &told, &moments);
+    put_held(sheet, writer, &told, machine);
 }

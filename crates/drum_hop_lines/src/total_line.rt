@@ -1,51 +1,24 @@
 //! The line of all hops.
 
-ghost use Rattle.std.specs.Prelude.{◌≡◌, ◌+◌, ◌^◌, ◌≤◌, IfOk};
-ghost use Rattle.drum_devices.specs.Device.{failures_after};
-ghost use Rattle.drum_lines.specs.Sent.{IsSent};
+ghost use Rattle.drum_sheet.specs.Stands.{Passes};
 ghost use Rattle.drum_hop_lines.specs.KindsOf.{waited_line};
 
 use crate::waited::Waited;
 use drum_devices::Output;
-use drum_lines::{WriteFault, send};
-use itoa::Buffer;
+use drum_sheet::Sheet;
 
-/// Writes the line of what all hops of a walk take, `time` word times, where `sent` bytes have gone
-/// out before, and returns how many have gone out then.
-///
-/// # Errors
-///
-/// Where a write fails or takes no byte: then a prefix of the line has gone out, up to where the
-/// fault says.
-pub fn send_total<O: Output>(
-    writer: &mut O,
-    sent: usize,
-    time: u128,
-    waited: &Waited,
-) -> Result<usize, WriteFault>
-    requires called { O.called writer.old ≤ 2 ^ 62 + 2 ^ 61 }
-    requires few { sent ≤ 2 ^ 61 }
-    ensures sent { IsSent (O.device writer.old).written (O.device writer.new).written sent result
+/// Puts the line of what all hops of a walk take, `time` word times.
+pub fn put_total<O: Output>(sheet: &mut Sheet, writer: &mut O, time: u128, waited: &Waited)
+    ensures { Passes (O.device writer.old) sheet.old (O.device writer.new) sheet.new
         (waited_line time waited.now) }
-    ensures failures { (O.device writer.new).failures
-        ≡ failures_after result (O.device writer.old).failures }
-    ensures calls { O.called writer.new ≤ O.called writer.old + 200 }
-    ensures few { IfOk result (λ total. total ≤ sent + 200) }
 {
-    let mut work = Buffer::new();
-    let mut instruction = Buffer::new();
-    let mut operand = Buffer::new();
-    let mut cards = Buffer::new();
-    let pieces: [&[u8]; 9] = [
-        b"total work ",
-        work.format(waited.work(time)).as_bytes(),
-        b" instruction ",
-        instruction.format(waited.instruction).as_bytes(),
-        b" data ",
-        operand.format(waited.operand).as_bytes(),
-        b" cards ",
-        cards.format(waited.cards).as_bytes(),
-        b"\n",
-    ];
-    send(writer, sent, &pieces)
+    sheet.put(writer, b"total work ");
+    sheet.put_number(writer, waited.work(time));
+    sheet.put(writer, b" instruction ");
+    sheet.put_number(writer, waited.instruction);
+    sheet.put(writer, b" data ");
+    sheet.put_number(writer, waited.operand);
+    sheet.put(writer, b" cards ");
+    sheet.put_number(writer, waited.cards);
+    sheet.put(writer, b"\n");
 }

@@ -4,13 +4,13 @@ ghost use Rattle.drum_times.specs.Entries.{entry_in};
 ghost use Rattle.drum_walks.specs.Visited.{seen_visit};
 ghost use Rattle.drum_hop_lines.specs.WalkText.{visit_line};
 
-use crate::hop_text::send_hop;
+use crate::hop_text::put_hop;
 use crate::line::Line;
 use crate::moments::Moments;
-use crate::moments_text::send_times;
+use crate::moments_text::put_times;
 use crate::timed_hop::TimedHop;
 use drum_devices::Output;
-use drum_lines::WriteFault;
+use drum_sheet::Sheet;
 use drum_times::Times;
 use drum_walks::Visit;
 
@@ -26,10 +26,10 @@ impl Line for VisitLine<'_> {
     ghost text = { λ line. visit_line (entry_in line.times.now) line.angle
         (seen_visit line.visit.now) };
 
-    fn send<O: Output>(&self, writer: &mut O, sent: usize) -> Result<usize, WriteFault> {
+    fn put<O: Output>(&self, sheet: &mut Sheet, writer: &mut O) {
         let told = TimedHop::of(self.visit);
         let moments = Moments::of(&told, self.times, self.angle);
-        let sent = send_hop(writer, sent, &told, b" begun ", told.begun)?;
-        send_times(writer, sent, &moments, told.ended, b"\n")
+        put_hop(sheet, writer, &told, b" begun ", told.begun);
+        put_times(sheet, writer, &moments, told.ended, b"\n");
     }
 }

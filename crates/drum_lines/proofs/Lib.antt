@@ -1,2 +1,1 @@
 pub mod NoLine
-pub mod Sending

@@ -5,6 +5,5 @@ pub mod FaultText
 pub mod NameText
 pub mod Output
 pub mod Reply
-pub mod Sent
 pub mod Status
 pub mod VerdictText

@@ -1,5 +1,5 @@
 -- What standard output and standard error get of a reply, and how the program ends.
-use Rattle.std.specs.Prelude.{◌≡◌, ℕ, List, Result, Ok, Err, ◌⊎◌}
+use Rattle.std.specs.Prelude.{◌≡◌, ℕ, List, ◌⊎◌}
 use Rattle.drum_devices.specs.Device.{Device}
 use Rattle.drum_sheet.specs.Gets.{GetsAll, GetsPrefix}
 use Rattle.drum_lines.specs.declared.status.Status.{Status}
@@ -16,11 +16,6 @@ abbrev pub GetsResult : Device → Device → List ℕ → Status → Status →
 GetsResult before after text done status =
     (GetsAll before after text × (status ≡ done))
     ⊎ (GetsPrefix before after text × (status ≡ Failed))
-
--- how the program ends once a result was written
-abbrev pub ended_with : {A E : Type 0} → Result A E → Status → Status
-ended_with (Ok done) status = status
-ended_with (Err fault) status = Failed
 
 -- A result goes to standard output. A complaint or a list of faults goes to standard error, and the
 -- status is the same if it can't be written there. Of a text that is given up standard output gets

@@ -2,26 +2,22 @@
 //! with which the program ends after it. They take no memory.
 //!
 //! Code. `fault` (with the status after each) and `part` are why a command has no answer. `limit`
-//! is by what the time of a replay or a trace is limited. `status` is how the program ends, and
-//! `failed_write` how much of a text went out. `print` has the parts of a line; `print/` puts each
-//! line on a sheet. `print/fault_line` hands a fault to the one of its kind: `print/deck_fault`,
-//! `note_fault`, `input_fault`, `part_fault`, and `refusal_line` for what refuses an analysis
-//! (faults 31 to 37). `print/mark_name` has the pieces that end the line of a mark with a name.
-//! `telling` writes a text to the output that it is for, and tells the status then, after a write
-//! that failed too. `send` of `print` is for texts that count what has gone out as they go.
+//! is by what the time of a replay or a trace is limited. `status` is how the program ends. `print`
+//! has the parts of a line; `print/` puts each line on a sheet. `print/fault_line` hands a fault to
+//! the one of its kind: `print/deck_fault`, `note_fault`, `input_fault`, `part_fault`, and
+//! `refusal_line` for what refuses an analysis (faults 31 to 37). `print/mark_name` ends the line of
+//! a mark with its name. `telling` writes a text to the output that it is for, and tells the status
+//! then, after a write that failed too.
 //!
 //! Definitions, in the order to read them: `BoundText`, `VerdictText` and `FaultText` are the
 //! lines, and `NameText` is how the line of a mark ends with its name. `Status` is the number of
 //! each status, and `FaultStatus` which comes after which fault, and how many failed reads a fault
 //! tells. `Reply` is what the program has to say, and that it tells of as many failed reads as
-//! there were; `Output` is what goes out of that. `Does` says what the code means by one of these,
-//! and `Sent` what has gone out of a text.
+//! there were; `Output` is what goes out of that. `Does` says what the code means by one of these.
 //!
-//! Proofs. `Sending` has laws of texts that go out one behind the other, and `NoLine` says which
-//! replies are no fault's line: both serve the crates above.
+//! Proofs. `NoLine` says which replies are no fault's line, for the crates above.
 #![tactic(auto)]
 
-mod failed_write;
 mod fault;
 mod limit;
 mod part;
@@ -29,15 +25,13 @@ mod print;
 mod status;
 mod telling;
 
-pub use failed_write::WriteFault;
 pub use fault::Fault;
 pub use limit::Limit;
 pub use part::{Part, PartFault};
-pub use print::mark_name::{name_pieces, put_name};
-pub use print::verdict_line::spelling_of;
-pub use print::{four_digits, put_bound, put_located, put_location, send, send_bound, two_digits};
+pub use print::mark_name::put_name;
+pub use print::verdict_line::{put_verdict, spelling_of};
+pub use print::{four_digits, put_bound, put_located, put_location, put_named, two_digits};
 pub use status::Status;
 pub use telling::{
-    complain, end_result, ended, tell_bound, tell_fault, tell_faults, tell_text, tell_usage,
-    tell_verdict,
+    complain, end_result, tell_bound, tell_fault, tell_faults, tell_text, tell_usage, tell_verdict,
 };

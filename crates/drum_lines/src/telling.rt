@@ -6,11 +6,10 @@ ghost use Rattle.drum_sheet.specs.Stands.{Stands};
 ghost use Rattle.drum_lines.specs.BoundText.{bound_text};
 ghost use Rattle.drum_lines.specs.FaultStatus.{status_after};
 ghost use Rattle.drum_lines.specs.FaultText.{fault_text};
-ghost use Rattle.drum_lines.specs.Output.{GetsComplaint, GetsResult, ended_with};
+ghost use Rattle.drum_lines.specs.Output.{GetsComplaint, GetsResult};
 ghost use Rattle.drum_lines.specs.Status.{status_of};
 ghost use Rattle.drum_lines.specs.VerdictText.{verdict_text};
 
-use crate::failed_write::WriteFault;
 use crate::fault::Fault;
 use crate::limit::Limit;
 use crate::print::fault_line::put_fault;
@@ -39,16 +38,6 @@ fn end_complaint<E: Output>(sheet: Sheet, err: &mut E)
         → GetsComplaint begun (E.device err.new) text }
 {
     let _ = sheet.finish(err);
-}
-
-/// How the program ends once a result was written.
-pub fn ended(written: Result<(), WriteFault>, done: Status) -> Status
-    ensures { result ≡ ended_with written done }
-{
-    match written {
-        Ok(()) => done,
-        Err(_) => Status::Failed,
-    }
 }
 
 /// Writes a bound.
