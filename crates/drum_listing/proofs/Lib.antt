@@ -1,5 +1,5 @@
+mod Short
 pub mod Spending
-mod TableLines
 mod TableRows
 pub mod Tallying
 mod WaitRowLines

@@ -73,7 +73,7 @@ pub tally_same : (here : ℕ → Bool) (walk : List Visited) (visit : Visited) �
 tally_same here walk visit is = ap tally_of (sym (visits_same here walk visit is))
 
 -- some hops take no longer than all, and are no more
-time_part : (here : ℕ → Bool) (walk : List Visited) → time_in (visits_at here walk) ≤ time_in walk
+pub time_part : (here : ℕ → Bool) (walk : List Visited) → time_in (visits_at here walk) ≤ time_in walk
 time_part here [] = omega arith
 time_part here (one ∷ walk) = go (here one.place) (time_part here walk)
   where
@@ -92,7 +92,7 @@ time_part here (one ∷ walk) = go (here one.place) (time_part here walk)
         )
     go false rest = omega (arith, rest, sum_by-cons (λ (v : Visited). v.ended - v.begun) one walk)
 
-count_part : (here : ℕ → Bool) (walk : List Visited) → length (visits_at here walk) ≤ length walk
+pub count_part : (here : ℕ → Bool) (walk : List Visited) → length (visits_at here walk) ≤ length walk
 count_part here [] = omega arith
 count_part here (one ∷ walk) = go (here one.place) (count_part here walk)
   where

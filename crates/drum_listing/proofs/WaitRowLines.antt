@@ -7,8 +7,7 @@ use Rattle.drum_times.specs.declared.entry.Entry.{Entry}
 use Rattle.drum_walks.specs.Visited.{Visited}
 use Rattle.drum_hop_lines.specs.declared.sums.Sums.{Sums}
 use Rattle.drum_hop_lines.specs.WaitsText.{kind_line, wait_line}
-use Rattle.drum_hop_lines.proofs.Lines.{flat_map_map}
-use Rattle.drum_hop_lines.proofs.WaitLines.{same_texts}
+use Rattle.drum_hop_lines.proofs.Lines.{flat_map_map, same_texts}
 use Rattle.drum_listing.specs.declared.waits.Waits.{Waits}
 use Rattle.drum_listing.specs.declared.waits.wait.Wait.{Wait}
 use Rattle.drum_listing.specs.WaitsOf.{AreWaits, IsSumOf, first_of, firsts_of, row_text}

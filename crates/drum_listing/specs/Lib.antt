@@ -5,3 +5,4 @@ pub mod TableOf
 pub mod TableText
 pub mod TalliesOf
 pub mod WaitsOf
+pub mod Written

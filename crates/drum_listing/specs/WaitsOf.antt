@@ -1,8 +1,8 @@
 -- What the waits of a walk are, as the code has them.
-use Rattle.std.specs.Prelude.{◌≡◌, ℕ, ◌≤◌, List, [], ◌∷◌, filter, length, map}
+use Rattle.std.specs.Prelude.{◌≡◌, ℕ, List, [], ◌∷◌, filter, map}
 use Rattle.std.specs.Prelude.{Option, Some, None, Contains}
 use Rattle.std.specs.Map.{values_of}
-use Rattle.indexmap.specs.IndexMap.{IndexMap, IsUnique, get, index_map_len}
+use Rattle.indexmap.specs.IndexMap.{IndexMap, IsUnique, get}
 use Rattle.drum_core.specs.declared.op.Op.{Op}
 use Rattle.drum_times.specs.declared.entry.Entry.{Entry}
 use Rattle.drum_walks.specs.declared.visit.Visit.{Visit}
@@ -26,12 +26,11 @@ row_of times angle [] = None
 row_of times angle (first ∷ others) =
     Some (record { first = first; sums = sums_of times angle (map seen_visit (first ∷ others)) })
 
--- A map has the row of each kind of hops of a walk, and no kind twice, so no more than hops.
+-- A map has the row of each kind of hops of a walk, and no kind twice.
 pub record AreRows {S : Type 0} (times : Op → Entry) (angle : ℕ) (walk : List Visit)
     (rows : IndexMap Kind Wait S) : Type 0 where
   pub found : (kind : Kind) → get same_kind rows kind ≡ row_of times angle (of_kind kind walk)
   pub apart : IsUnique same_kind rows
-  pub few : index_map_len rows ≤ length walk
 
 -- the first hop of a row's kind
 abbrev pub first_of : Wait → Visited

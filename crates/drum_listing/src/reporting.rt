@@ -1,22 +1,46 @@
 //! The report of an analysis: where the word times of its walk go.
 
-ghost use Rattle.std.specs.Prelude.{◌≡◌, ◌+◌, ◌^◌, ◌≤◌};
+ghost use Rattle.std.specs.Prelude.{◌≡◌, ◌<◌, ◌^◌, length};
 ghost use Rattle.drum_bound.specs.AnalysisOf.{visits_of};
-ghost use Rattle.drum_listing.specs.Report.{report_text};
 ghost use Rattle.drum_devices.specs.Device.{failures_after};
-ghost use Rattle.drum_lines.specs.Sent.{IsWritten};
+ghost use Rattle.drum_sheet.specs.Stands.{Passes};
+ghost use Rattle.drum_listing.specs.Report.{report_text};
+ghost use Rattle.drum_listing.specs.Written.{IsWritten};
 
-mod sending;
+mod lines;
 mod tallies;
 mod tally;
 
+use crate::failed_write::WriteFault;
 use drum_bound::Analysis;
 use drum_deck::Deck;
 use drum_devices::Output;
-use drum_lines::{WriteFault, send_bound};
+use drum_lines::put_bound;
+use drum_sheet::Sheet;
 use drum_times::Notes;
-use sending::{send_cards, send_marks, send_other};
+use lines::{put_cards, put_marks, put_other};
 use tallies::Tallies;
+
+/// Puts the report of an analysis, which is not long.
+fn put_report<O: Output>(
+    sheet: &mut Sheet,
+    writer: &mut O,
+    analysis: &Analysis,
+    deck: &Deck,
+    notes: &Notes,
+)
+    ensures text { Passes (O.device writer.old) sheet.old (O.device writer.new) sheet.new
+        (report_text deck.now notes.now (visits_of analysis.now)) }
+    ensures short { length (report_text deck.now notes.now (visits_of analysis.now)) < 2 ^ 64 }
+{
+    let bound = analysis.bound();
+    let marks = notes.marks();
+    let tallies = Tallies::of(analysis.walk(), deck, marks);
+    put_cards(sheet, writer, deck, &tallies.cards);
+    put_other(sheet, writer, &tallies.other);
+    put_marks(sheet, writer, marks, &tallies.passed);
+    put_bound(sheet, writer, bound);
+}
 
 /// Writes the report of an analysis: for each card of the deck how often the walk visits its
 /// locations and the word times that it spends there, the same for all other locations, how often
@@ -33,19 +57,13 @@ pub fn report<O: Output>(
     notes: &Notes,
     writer: &mut O,
 ) -> Result<(), WriteFault>
-    requires { O.called writer.old ≤ 2 ^ 62 }
     ensures written { IsWritten (O.device writer.old).written (O.device writer.new).written result
         (report_text deck.now notes.now (visits_of analysis.now)) }
     ensures failures { (O.device writer.new).failures
         ≡ failures_after result (O.device writer.old).failures }
-    ensures calls { O.called writer.new ≤ O.called writer.old + 487920 }
 {
-    let bound = analysis.bound();
-    let marks = notes.marks();
-    let tallies = Tallies::of(analysis.walk(), deck, marks);
-    let sent = send_cards(writer, deck, &tallies.cards)?;
-    let sent = send_other(writer, sent, &tallies.other)?;
-    let sent = send_marks(writer, sent, marks, &tallies.passed)?;
-    send_bound(writer, sent, bound)?;
+    let mut sheet = Sheet::new();
+    put_report(&mut sheet, writer, analysis, deck, notes);
+    sheet.finish(writer)?;
     Ok(())
 }

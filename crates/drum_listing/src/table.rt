@@ -1,22 +1,16 @@
 //! The table of worst times of an analysis, in order.
 
-ghost use Rattle.std.specs.Prelude.{◌≤◌, vec_len};
-
 mod line;
 mod listing;
 
 use drum_bound::{Analysis, Worst};
-pub use listing::list_table;
+pub use listing::put_table;
 use std::alloc::{AllocError, Global};
-
-/// The most entries that are held, far more than any analysis has.
-const MOST_ENTRIES: usize = 1 << 40;
 
 /// The table of worst times, by location and, of one location, by the number of the counts.
 #[derive(Debug, Drop)]
 pub struct Table {
     rows: Vec<Worst>,
-    ghost few: { vec_len rows ≤ 1099511627776 },
 }
 
 impl Table {
@@ -33,11 +27,7 @@ impl Table {
     pub fn of(alloc: Global, analysis: &Analysis) -> Result<Table, AllocError>
         ensures { IfOk result (λ table. AreInOrder (rows_of analysis.now) (rows_in table)) }
     {
-        let entries = analysis.table();
-        if entries.len() > MOST_ENTRIES {
-            return Err(AllocError);
-        }
-        let mut rows = entries.to_vec(alloc)?;
+        let mut rows = analysis.table().to_vec(alloc)?;
         rows.sort_unstable_by_key(|row| (row.place.number(), row.counts));
         Ok(Table { rows })
     }

@@ -1,8 +1,7 @@
-use Rattle.std.proofs.Common.{◌≤◌, length, subst, arith}
+use Rattle.std.proofs.Common.{subst, arith}
 use Rattle.drum_deck.specs.InDeck.{loads_in}
 use Rattle.drum_times.specs.Allowed.{AreSound}
 use Rattle.drum_flow.specs.Flow.{deck_of, notes_of}
-use Rattle.drum_flow.specs.Hops.{hops}
 use Rattle.drum_bound.proofs.FewHops.{few_hops}
 use Rattle.drum_listing.proofs.size.hops_at.Goals as goal
 

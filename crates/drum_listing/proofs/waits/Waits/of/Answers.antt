@@ -33,7 +33,6 @@ returns c =
       found = λ kind.
           reordered_same c.in_ok-by_kind.by_kind rows c.sort_by_key.ensures.reordered.2 kind ∙ before.found kind;
       apart = unique_same rows c.sort_by_key.ensures.unique;
-      few = omega (arith, c.sort_by_key.ensures.reordered.1, before.few);
     } in
     let short : sum_by time_of (map seen_visit walk) < 2 ^ 50 =
     omega (

@@ -1,11 +1,9 @@
 -- Of by_kind: each kind that the walk so far has come to has the sums over its hops, and no other
 -- has any. The walk's hops are few and its time is short, so the sums have room.
-use Rattle.std.proofs.Common.{◌≡◌, ◌+◌, ℕ, cond, Some, None, Option, ap, subst, sym, ◌∙◌, List, [], ◌∷◌, ◌++◌, take, arith}
-use Rattle.std.proofs.Common.{◌<◌, ◌≤◌, refl, Bool, true, false, length, is_some, if◌then◌else◌}
-use Rattle.std.proofs.lemmas.List.{length-take-le}
-use Rattle.indexmap.specs.IndexMap.{get, index_map_len}
+use Rattle.std.proofs.Common.{◌≡◌, ◌+◌, ℕ, cond, Some, None, Option, ap, subst, sym, ◌∙◌, [], ◌∷◌, ◌++◌, take, arith}
+use Rattle.std.proofs.Common.{refl}
+use Rattle.indexmap.specs.IndexMap.{get}
 use Rattle.drum_times.specs.Entries.{entry_in}
-use Rattle.drum_walks.specs.declared.visit.Visit.{Visit}
 use Rattle.drum_hop_lines.specs.declared.kind.Kind.{Kind}
 use Rattle.drum_hop_lines.specs.KindsOf.{kind_of, same_kind}
 use Rattle.drum_hop_lines.proofs.SameKinds.{get_same, unique_same, update_same}
@@ -34,23 +32,6 @@ plus-requires-clause-instruction c = omega (arith, (room c).instruction, c.spent
 
 pub plus-requires-clause-operand : goal.plus-requires-clause-operand
 plus-requires-clause-operand c = omega (arith, (room c).had, c.spent_by-sums.ensures.operand)
-
--- no more rows than hops, with one hop more
-one_more : (there : Bool) (walk : List Visit) (i before after : ℕ) → i < length walk
-    → before ≤ length (take i walk) → after ≡ before + (if there then 0 else 1)
-    → after ≤ length (take (i + 1) walk)
-one_more true walk i before after within few more =
-    omega (
-      arith,
-      length-take-le i walk (omega arith),
-      length-take-le (i + 1) walk (omega arith),
-    )
-one_more false walk i before after within few more =
-    omega (
-      arith,
-      length-take-le i walk (omega arith),
-      length-take-le (i + 1) walk (omega arith),
-    )
 
 pub loop-visit-preserved : goal.loop-visit-preserved
 loop-visit-preserved c =
@@ -93,6 +74,4 @@ loop-visit-preserved c =
           ≡ cond (same_kind k other) (Some c.match-get.wait) (get same_kind old other)) c.of-kind.ensures
           (update_same old new kind c.match-get.wait c.in_ok-insert.ensures.updates.0));
       apart = unique_same new c.in_ok-insert.ensures.unique;
-      few = one_more (is_some c.in_ok-insert.field-0) walk i (index_map_len old) (index_map_len new)
-          c.loop-visit-test.true c.loop-visit.invariant.few c.in_ok-insert.ensures.len;
     }
