@@ -1,10 +1,10 @@
 -- The hops of a walk beside those that its pieces spell out.
-use Rattle.std.proofs.Common.{◌≡◌, ℕ, ◌+◌, ◌%◌, ◌≤◌, List, [], ◌∷◌, map, refl, ap, sym, ◌∙◌, subst, Option, Some, None}
+use Rattle.std.proofs.Common.{◌≡◌, ℕ, ◌+◌, ◌%◌, ◌≤◌, List, [], ◌∷◌, map, refl, ap, sym, ◌∙◌, subst, Some}
 use Rattle.drum_core.specs.declared.op.Op.{Op}
 use Rattle.drum_core.specs.Op.{op_of}
 use Rattle.drum_times.specs.declared.entry.Entry.{Entry}
 use Rattle.drum_machine.specs.Counts.{after_pass, no_counts, AreWithin}
-use Rattle.drum_flow.specs.Walk.{IsTimed, IsWalkFrom, Setting, Taken}
+use Rattle.drum_flow.specs.Walk.{IsWalkFrom, Setting, Taken}
 use Rattle.drum_flow.specs.Longest.{longest}
 use Rattle.drum_walks.specs.Visited.{visited, AreLongest, Visited}
 use Rattle.drum_walks.specs.Pieces.{placed, spelled, PlacedHop}

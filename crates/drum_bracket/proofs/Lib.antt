@@ -3,13 +3,8 @@ pub mod FirstComings
 pub mod FirstVisits
 pub mod KindSums
 pub mod Laid
-pub mod LineCounts
-mod LineWeights
-pub mod LineSums
 pub mod Lists
 pub mod Passing
-pub mod PriceText
-pub mod RoundsLines
 pub mod RoundsWaitsFound
 pub mod RowRoom
 pub mod RowSteps

@@ -32,10 +32,9 @@ use Rattle.drum_hop_lines.specs.WalkText.{hop_text, way_text}
 use Rattle.drum_hop_lines.proofs.DataAngles.{same_data_at}
 use Rattle.drum_hop_lines.proofs.KindRows.{entry_of, key_at, one_place, AreDearest}
 use Rattle.drum_hop_lines.proofs.LaterMoments.{at_once, data_at_once, next_at_once}
-use Rattle.drum_hop_lines.proofs.Lines.{flat_map_map}
+use Rattle.drum_hop_lines.proofs.Lines.{flat_map_map, same_texts}
 use Rattle.drum_hop_lines.proofs.NextAngles.{same_next_at}
 use Rattle.drum_hop_lines.proofs.SameKinds.{alike_equiv, in_common, same_kind_equiv}
-use Rattle.drum_hop_lines.proofs.WaitLines.{same_texts}
 use Rattle.drum_bracket.specs.declared.waits.kind_row.KindRow.{KindRow}
 use Rattle.drum_bracket.specs.RoundsText.{from_to}
 use Rattle.drum_bracket.specs.RoundsWaitsOf.{is_of, kind_of, of_those, row_text, seen_kind}

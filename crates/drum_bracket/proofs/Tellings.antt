@@ -3,11 +3,11 @@ use Rattle.std.proofs.Common.{◌≡◌, ℕ, zero, suc, ◌+◌, ◌-◌, ◌*�
 use Rattle.std.proofs.Common.{length, replicate, take, drop, get_or, flat_map, refl, ap, sym, ◌∙◌, subst, arith, Option, Some, None}
 use Rattle.std.proofs.Common.{append_assoc, length-append, Vec, Global, inl, inr}
 use Rattle.std.specs.Prelude.{slice_get, slice_index, sum_by, unwrap_or}
-use Rattle.std.proofs.lemmas.List.{append-nil, at_drop_more, get_or_read, take-append-drop, take-take}
+use Rattle.std.proofs.lemmas.List.{append-nil, at_drop_more, take-append-drop, take-take}
 use Rattle.std.proofs.lemmas.List.{take_all, take_more}
 use Rattle.std.proofs.Math.Nat.{mul-le-mul_right, suc-mul}
 use Rattle.std.proofs.lemmas.Bool.{cases_lt}
-use Rattle.std.proofs.lemmas.Option.{get_or_from_slice_get, slice_get_read, slice_get_within}
+use Rattle.std.proofs.lemmas.Option.{get_or_from_slice_get, slice_get_within}
 use Rattle.std.proofs.lemmas.List.Sums.{sum_by-append, sum_by-cons}
 use Rattle.drum_core.specs.declared.op.Op.{Op}
 use Rattle.drum_times.specs.declared.entry.Entry.{Entry}
@@ -24,8 +24,6 @@ use Rattle.drum_bracket.specs.RoundsText.{again_line, at_time, both, end_rounds_
 use Rattle.drum_bracket.specs.RoundsText.{last_place, part_again, rounds_line}
 use Rattle.drum_bracket.specs.RoundsText.{one_more, placed_line, tell, tell_behind, tell_by, tell_named, tell_one}
 use Rattle.drum_bracket.specs.RoundsText.{tell_part, tell_rounds, tell_row, Telling, PartsSoFar}
-use Rattle.drum_bracket.specs.declared.progress.Progress.{Progress}
-use Rattle.drum_bracket.specs.ProgressOf.{told_of}
 use Rattle.drum_bracket.specs.TellerOf.{lasts_of, named_told, piece_told, pieces_in, row_told, tellings, IsTeller}
 use Rattle.drum_bracket.proofs.Lists.{at_before, at_last, at_none, at_taken, long_taken, past, split_at}
 use Rattle.drum_bracket.proofs.Passing.{begin_rounds, end_rounds}
@@ -349,17 +347,6 @@ module _ (t : Teller) where
       ap (λ (n : ℕ). (again_line part told.time n ∷ [], at_time n told))
       (piece_lasts number one told is at ∙ ap (λ (n : ℕ). told.time + n) (sym so))
 
--- ---- what the code has read
-
-pub piece_read : (pieces read : List Piece) (number : ℕ) (one : Piece) → read ≡ pieces → number < length pieces
-    → one ≡ get_or read number one → slice_get pieces number ≡ Some one
-piece_read pieces read number one same less is =
-    slice_get_read pieces (length pieces) number one refl less (is ∙ ap (λ (ps : List Piece). get_or ps number one) same)
-
-pub part_read : (parts : List (Option ℕ)) (number : ℕ) (read part : Option ℕ) → number < length parts
-    → read ≡ get_or parts number read → read ≡ part → get_or parts number None ≡ part
-part_read parts number read part less is same = sym (get_or_read parts number read less is None) ∙ same
-
 -- ---- rounds
 
 -- a line, what is told once, and a line
@@ -386,22 +373,29 @@ rounds_later rounds begun once each ended is so =
     let least : 1 * each ≤ rounds.times * each = mul-le-mul_right each (omega (arith, rounds.some)) in
     omega (arith, least, is, so)
 
--- and the code's numbers are these
-pub rounds_each : (t : Teller) (limit : ℕ) (rounds : Rounds) (old between later : Progress) (each : ℕ)
-    → told_of between ≡ told_of old → told_of later ≡ (named_told t limit rounds.piece (told_of between)).1
-    → each ≡ later.time - old.time → each ≡ (named_told t limit rounds.piece (told_of old)).1.time - old.time
-rounds_each t limit rounds old between later each same now is =
-    is ∙ ap (λ (u : PartsSoFar). u.time - old.time) (now ∙ ap (λ (u : PartsSoFar). (named_told t limit rounds.piece u).1) same)
+-- so what is told once ends no later than all rounds
+pub rounds_sooner : (t : Teller) (limit : ℕ) (rounds : Rounds) (told : PartsSoFar)
+    → (named_told t limit rounds.piece told).1.time ≤ (piece_told t limit (piece.Rounds rounds) told).1.time
+rounds_sooner t limit rounds told =
+    let once = (named_told t limit rounds.piece told).1.time in
+    let each = once - told.time in
+    subst (λ (x : List (List ℕ) × PartsSoFar). once ≤ x.1.time) (sym (rounds_told t limit rounds told))
+    (rounds_later rounds told.time once each (told.time + rounds.times * each) refl refl)
 
-pub rounds_fit : (t : Teller) (limit : ℕ) (rounds : Rounds) (old between later : Progress) (count each : ℕ)
-    → told_of between ≡ told_of old → told_of later ≡ (named_told t limit rounds.piece (told_of between)).1
-    → count ≡ rounds.times → each ≡ later.time - old.time
-    → (piece_told t limit (piece.Rounds rounds) (told_of old)).1.time ≡ old.time + count * each
-rounds_fit t limit rounds old between later count each same now often is =
+-- and the code's numbers are these
+pub rounds_each : (t : Teller) (limit : ℕ) (rounds : Rounds) (told later : PartsSoFar) (each : ℕ)
+    → later ≡ (named_told t limit rounds.piece told).1 → each ≡ later.time - told.time
+    → each ≡ (named_told t limit rounds.piece told).1.time - told.time
+rounds_each t limit rounds told later each now is = is ∙ ap (λ (u : PartsSoFar). u.time - told.time) now
+
+pub rounds_fit : (t : Teller) (limit : ℕ) (rounds : Rounds) (told later : PartsSoFar) (count each : ℕ)
+    → later ≡ (named_told t limit rounds.piece told).1 → count ≡ rounds.times → each ≡ later.time - told.time
+    → (piece_told t limit (piece.Rounds rounds) told).1.time ≡ told.time + count * each
+rounds_fit t limit rounds told later count each now often is =
     ap (λ (x : List (List ℕ) × PartsSoFar). x.1.time)
-    (rounds_split t limit rounds (told_of old) each (old.time + rounds.times * each)
-    (rounds_each t limit rounds old between later each same now is) refl)
-    ∙ ap (λ (n : ℕ). old.time + n * each) (sym often)
+    (rounds_split t limit rounds told each (told.time + rounds.times * each)
+    (rounds_each t limit rounds told later each now is) refl)
+    ∙ ap (λ (n : ℕ). told.time + n * each) (sym often)
 
 -- ---- pieces in a row
 
@@ -433,6 +427,19 @@ row_more t limit names i told less =
     (row_one t limit here [] first.1 ∙ ap (λ (x : List (List ℕ) × PartsSoFar). (next.0 ++ x.0, x.1)) (row_none t limit next.1))
     ∙ ap (λ (xs : List (List ℕ)). (first.0 ++ xs, next.1)) (append-nil next.0)
 
+-- which ends no later than the whole row
+pub row_sooner : (t : Teller) (limit : ℕ) (names : List ℕ) (i : ℕ) (told between : PartsSoFar) → i < length names
+    → between ≡ (row_told t limit (take i names) told).1
+    → (named_told t limit (get_or names i 0) between).1.time ≤ (row_told t limit names told).1.time
+row_sooner t limit names i told between less is =
+    let here = get_or names i 0 in
+    omega (
+      arith,
+      ap (λ (u : PartsSoFar). (named_told t limit here u).1.time) is,
+      ap (λ (x : List (List ℕ) × PartsSoFar). x.1.time) (row_at t limit names i told less),
+      row_later t limit (drop (i + 1) names) (named_told t limit here (row_told t limit (take i names) told).1).1,
+    )
+
 pub row_all : (t : Teller) (limit : ℕ) (names : List ℕ) (i : ℕ) (told : PartsSoFar) → length names ≤ i
     → row_told t limit (take i names) told ≡ row_told t limit names told
 row_all t limit names i told low = ap (λ (ns : List ℕ). row_told t limit ns told) (take_all i names low)
@@ -456,15 +463,16 @@ none_in (suc count) zero = refl
 none_in (suc count) (suc number) = none_in count number
 
 -- no part has begun
-pub at_start : (progress : Progress) (count : ℕ) → progress.begun ≡ 0 → progress.time ≡ 0
-    → progress.parts.items ≡ replicate count None
-    → told_of progress ≡ record { begun = 0; part = λ _. None; time = 0 }
-at_start progress count begun time parts =
+abbrev pub so_far : List (Option ℕ) → PartsSoFar
+so_far parts = record { begun = 0; part = λ number. get_or parts number None; time = 0 }
+
+pub at_start : (parts : List (Option ℕ)) (count : ℕ) → parts ≡ replicate count None
+    → so_far parts ≡ record { begun = 0; part = λ _. None; time = 0 }
+at_start parts count none =
     λ i. record {
-      begun = begun i;
-      part = λ number.
-          (ap (λ (all : List (Option ℕ)). get_or all number None) parts ∙ none_in count number) i;
-      time = time i;
+      begun = 0;
+      part = λ number. (ap (λ (all : List (Option ℕ)). get_or all number None) none ∙ none_in count number) i;
+      time = 0;
     }
 
 pub whole_told : (t : Teller) (count last : ℕ) (told : PartsSoFar) → count ≡ length (pieces_in t) → last ≡ count - 1

@@ -2,7 +2,6 @@ pub mod CeilingText
 pub mod CountsOf
 pub mod EndsOf
 pub mod OutlineOf
-pub mod PartLine
 pub mod ProgressOf
 pub mod RoundsText
 pub mod RoundsWaits

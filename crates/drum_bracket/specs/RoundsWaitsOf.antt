@@ -1,8 +1,8 @@
 -- What the waits of a walk in rounds are, as the code has them.
-use Rattle.std.specs.Prelude.{◌≡◌, ℕ, ◌*◌, ◌<◌, ◌≤◌, Bool, true, false, if◌then◌else◌, List, ◌++◌}
+use Rattle.std.specs.Prelude.{◌≡◌, ℕ, ◌*◌, ◌<◌, Bool, true, false, if◌then◌else◌, List, ◌++◌}
 use Rattle.std.specs.Prelude.{flat_map, slice_get, slice_index, take, Option, Some, None}
 use Rattle.std.specs.Map.{values_of}
-use Rattle.indexmap.specs.IndexMap.{IndexMap, IsUnique, get, index_map_len}
+use Rattle.indexmap.specs.IndexMap.{IndexMap, IsUnique, get}
 use Rattle.drum_core.specs.declared.op.Op.{Op}
 use Rattle.drum_times.specs.declared.entry.Entry.{Entry}
 use Rattle.drum_machine.specs.WaysLeft.{seen_way}
@@ -111,13 +111,12 @@ abbrev pub IsRowOf : (Op → Entry) → List Piece → List ℕ → ℕ → (Pla
 IsRowOf times pieces often limit is None = AreNoneBelow is pieces limit
 IsRowOf times pieces often limit is (Some row) = IsRow times pieces often limit is row
 
--- A map has the row of each kind, and no kind twice, so no more than pieces.
+-- A map has the row of each kind, and no kind twice.
 pub record AreRows {S : Type 0} (times : Op → Entry) (pieces : List Piece) (often : List ℕ)
     (limit : ℕ) (rows : IndexMap Kind KindRow S) : Type 0 where
   pub found : (kind : Kind)
       → IsRowOf times pieces often limit (is_of kind) (get same_kind rows kind)
   pub apart : IsUnique same_kind rows
-  pub few : index_map_len rows ≤ limit
 
 -- the row of one piece, as often as its hop comes
 pub record IsOfPiece (times : Op → Entry) (often : List ℕ) (at : ℕ) (one : Placed)

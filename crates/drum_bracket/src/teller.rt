@@ -1,20 +1,19 @@
 //! What is known of a walk to tell its pieces; a hop, and a part that comes again.
 
-ghost use Rattle.std.specs.Prelude.{◌≡◌, ◌+◌, OnOk, Some, length, slice_get};
+ghost use Rattle.std.specs.Prelude.{◌≡◌, ◌<◌, Some, length, slice_get};
 ghost use Rattle.drum_walks.specs.Pieces.{spelled_of};
 ghost use Rattle.drum_walks.specs.declared.piece.Piece.TheVariants as pieces;
-ghost use Rattle.drum_devices.specs.Device.{failures_after};
-ghost use Rattle.drum_bracket.specs.ProgressOf.{told_of, HasTold, IsPassed, MayTell};
+ghost use Rattle.drum_bracket.specs.ProgressOf.{told_of, HasTold, MayTell};
 ghost use Rattle.drum_bracket.specs.RoundsText.{first_place, is_part, last_place, part_again};
 ghost use Rattle.drum_bracket.specs.TellerOf.{piece_told, pieces_in, IsTeller};
 
 use crate::ends::{Ends, ends_at};
-use crate::hop_line::HopLine;
-use crate::part_line::PartLine;
+use crate::hop_line::put_placed;
+use crate::part_line::put_again;
 use crate::progress::Progress;
 use drum_devices::Output;
-use drum_lines::WriteFault;
 use drum_rounds::InRounds;
+use drum_sheet::Sheet;
 use drum_times::Times;
 use drum_walks::{Piece, Placed};
 
@@ -30,6 +29,14 @@ pub struct Teller<'a> {
 }
 
 impl Teller<'_> {
+    /// The piece with this number.
+    pub fn piece_at(&self, number: usize) -> &Piece
+        requires { number < length (pieces_in self.now) }
+        ensures { slice_get (pieces_in self.now) number ≡ Some result.now }
+    {
+        &self.walk.pieces()[number]
+    }
+
     /// Whether the piece with this number is a part.
     pub fn is_part(&self, number: usize, piece: &Piece) -> bool
         requires teller { IsTeller self.now }
@@ -57,64 +64,45 @@ impl Teller<'_> {
     /// Tells a hop.
     pub fn hop<O: Output>(
         &self,
+        sheet: &mut Sheet,
+        writer: &mut O,
         number: usize,
         one: Placed,
         progress: &mut Progress,
-        writer: &mut O,
-    ) -> Result<(), WriteFault>
+    )
         requires teller { IsTeller self.now }
         requires is { slice_get (pieces_in self.now) number ≡ Some (pieces.Hop one) }
-        requires may { MayTell (O.called writer.old) (length (pieces_in self.now)) progress.old
+        requires may { MayTell (length (pieces_in self.now)) progress.old
             (piece_told self.now number (pieces.Hop one) (told_of progress.old)) }
-        ensures lines { IsPassed (O.device writer.old).written (O.device writer.new).written
-            progress.old
-            progress.new result
-            (piece_told self.now number (pieces.Hop one) (told_of progress.old)).0 }
-        ensures failures { (O.device writer.new).failures
-            ≡ failures_after result (O.device writer.old).failures }
-        ensures told { OnOk result (HasTold (O.called writer.old) (O.called writer.new) progress.old
-            progress.new (piece_told self.now number (pieces.Hop one) (told_of progress.old))) }
+        ensures { HasTold (O.device writer.old) sheet.old progress.old (O.device writer.new)
+            sheet.new progress.new
+            (piece_told self.now number (pieces.Hop one) (told_of progress.old)) }
     {
-        let begun = progress.time;
-        let ended = begun + self.walk.lasting(number);
-        let line = HopLine {
-            one,
-            times: self.times,
-            begun,
-            ended,
-        };
-        progress.pass(writer, &line)?;
+        let ended = progress.time + self.walk.lasting(number);
+        put_placed(sheet, writer, one, self.times, progress.time, ended);
         progress.time = ended;
-        Ok(())
     }
 
     /// Tells that a part comes again.
     pub fn again<O: Output>(
         &self,
+        sheet: &mut Sheet,
+        writer: &mut O,
         number: usize,
         piece: &Piece,
         part: usize,
         progress: &mut Progress,
-        writer: &mut O,
-    ) -> Result<(), WriteFault>
+    )
         requires teller { IsTeller self.now }
         requires is { slice_get (pieces_in self.now) number ≡ Some piece.now }
-        requires may { MayTell (O.called writer.old) (length (pieces_in self.now)) progress.old
+        requires may { MayTell (length (pieces_in self.now)) progress.old
             (part_again part (piece_told self.now number piece.now) (told_of progress.old)) }
-        ensures lines { IsPassed (O.device writer.old).written (O.device writer.new).written
-            progress.old
-            progress.new result
-            (part_again part (piece_told self.now number piece.now) (told_of progress.old)).0 }
-        ensures failures { (O.device writer.new).failures
-            ≡ failures_after result (O.device writer.old).failures }
-        ensures told { OnOk result (HasTold (O.called writer.old) (O.called writer.new) progress.old
-            progress.new
-            (part_again part (piece_told self.now number piece.now) (told_of progress.old))) }
+        ensures { HasTold (O.device writer.old) sheet.old progress.old (O.device writer.new)
+            sheet.new progress.new
+            (part_again part (piece_told self.now number piece.now) (told_of progress.old)) }
     {
-        let begun = progress.time;
-        let ended = begun + self.walk.lasting(number);
-        progress.pass(writer, &PartLine::Again(part, begun, ended))?;
+        let ended = progress.time + self.walk.lasting(number);
+        put_again(sheet, writer, part, progress.time, ended);
         progress.time = ended;
-        Ok(())
     }
 }

@@ -1,8 +1,5 @@
 //! Where the word times of a walk in rounds go, by instruction and way.
 
-ghost use Rattle.std.specs.Prelude.{◌^◌, ◌≤◌};
-ghost use Rattle.indexmap.specs.IndexMap.{index_map_len};
-
 mod adding;
 mod alone;
 mod kind_row;
@@ -14,7 +11,7 @@ use drum_rounds::InRounds;
 use drum_times::Times;
 use indexmap::IndexMap;
 use kind_row::KindRow;
-pub use listing::list_rounds_waits;
+pub use listing::put_rounds_waits;
 use std::alloc::{AllocError, Global};
 
 /// Where the word times of a walk in rounds go: what its hops of each kind take in all, the dearest
@@ -24,12 +21,10 @@ use std::alloc::{AllocError, Global};
 pub struct WaitsInRounds {
     by_kind: IndexMap<Kind, KindRow>,
     waited: Waited,
-    /// There are no more kinds than pieces, and no more than 2^32 of those.
-    ghost few: { index_map_len by_kind ≤ 2 ^ 32 },
 }
 
 impl WaitsInRounds {
-    ghost use Rattle.std.specs.Prelude.{◌≡◌, ◌<◌, IfOk, length};
+    ghost use Rattle.std.specs.Prelude.{◌≡◌, ◌^◌, ◌<◌, IfOk};
     ghost use Rattle.drum_times.specs.Entries.{entry_in};
     ghost use Rattle.drum_rounds.specs.InRounds.{total_of};
     ghost use Rattle.drum_bracket.specs.OutlineOf.{IsWalkWith};
@@ -54,8 +49,7 @@ impl WaitsInRounds {
 
     /// The rows, the dearest first.
     fn rows(&self) -> &[KindRow]
-        ensures rows { result.now ≡ rows_in self.now }
-        ensures few { length result.now ≤ 2 ^ 32 }
+        ensures { result.now ≡ rows_in self.now }
     {
         self.by_kind.values().as_slice()
     }

@@ -1,5 +1,5 @@
-use Rattle.std.proofs.Common.{◌≡◌, ◌+◌, ◌*◌, Ok, take}
-use Rattle.drum_bracket.specs.ProgressOf.{held_by, told_of, HasAdded, HasTold}
+use Rattle.std.proofs.Common.{◌+◌, ◌*◌, take}
+use Rattle.drum_bracket.specs.ProgressOf.{told_of, HasTold}
 use Rattle.drum_bracket.specs.TellerOf.{row_told}
 use Rattle.drum_bracket.proofs.teller.Teller.+telling.Given as goal
 
@@ -21,11 +21,6 @@ decreases-first g l = 4 * l.number + 3
 
 -- the pieces so far were told
 abbrev pub invariant-row-loop-number : goal.invariant-row-loop-number
-invariant-row-loop-number g l = record {
-  lines : HasAdded (g.O.Output.device l.fn.writer).written (g.O.Output.device l.writer).written l.fn.progress.sent
-      (held_by l.fn.progress) (Ok l.progress.sent) (held_by l.progress)
-      (row_told l.self l.limit (take l.number-index l.names) (told_of l.fn.progress)).0;
-  told : HasTold (g.O.Output.called l.fn.writer) (g.O.Output.called l.writer) l.fn.progress l.progress
-      (row_told l.self l.limit (take l.number-index l.names) (told_of l.fn.progress));
-  failures : (g.O.Output.device l.writer).failures ≡ (g.O.Output.device l.fn.writer).failures;
-}
+invariant-row-loop-number g l = HasTold (g.O.Output.device l.fn.writer) l.fn.sheet l.fn.progress
+    (g.O.Output.device l.writer) l.sheet l.progress
+    (row_told l.self l.limit (take l.number-index l.names) (told_of l.fn.progress))

@@ -1,12 +1,10 @@
-use Rattle.std.proofs.Common.{◌+◌, ℕ, List, Err, Ok, sym, subst, arith}
-use Rattle.std.proofs.lemmas.Result.{err_from_is_err_and}
+use Rattle.std.proofs.Common.{◌+◌, sym, arith, refl}
 use Rattle.drum_times.specs.Entries.{entry_in}
 use Rattle.drum_walks.specs.declared.piece.Piece.TheVariants as piece
 use Rattle.drum_walks.specs.Pieces.{seen_placed}
-use Rattle.drum_bracket.specs.ProgressOf.{held_by, told_of, HasAdded}
-use Rattle.drum_bracket.specs.RoundsText.{placed_line, PartsSoFar}
-use Rattle.drum_bracket.specs.TellerOf.{piece_told}
-use Rattle.drum_bracket.proofs.Passing.{line_told}
+use Rattle.drum_bracket.specs.ProgressOf.{told_of}
+use Rattle.drum_bracket.specs.RoundsText.{at_time, placed_line}
+use Rattle.drum_bracket.proofs.Passing.{told_as, told_line}
 use Rattle.drum_bracket.proofs.Tellings.{hop_is_told, piece_lasts}
 use Rattle.drum_bracket.proofs.teller.Teller.hop.Goals as goal
 
@@ -18,41 +16,19 @@ overflow_add-ended g c =
           c.requires.is,
     )
 
-pub invariant_of-line : goal.invariant_of-line
-invariant_of-line g c = record {
-  fits =
-      omega (
-        arith,
-        piece_lasts c.args.self.now c.args.number (piece.Hop c.args.one) (told_of c.args.progress.now) c.requires.teller
-            c.requires.is,
-      );
-}
+pub put_placed-requires : goal.put_placed-requires
+put_placed-requires g c =
+    omega (
+      arith,
+      piece_lasts c.args.self.now c.args.number (piece.Hop c.args.one) (told_of c.args.progress.now) c.requires.teller
+          c.requires.is,
+    )
 
-pub returns-in_err-pass-clause-lines : goal.returns-in_err-pass-clause-lines
-returns-in_err-pass-clause-lines g c =
-    let p = err_from_is_err_and c.from_residual.result c.from_residual.ensures.1 in
-    let is = hop_is_told c.args.self.now c.args.number c.args.one c.lasting.result (told_of c.args.progress.now)
-    c.requires.teller c.requires.is c.lasting.ensures in
-    rw (p.1, p.2) (subst (λ (t : List (List ℕ) × PartsSoFar). HasAdded (g.O.Output.device c.args.writer.now).written
-    (g.O.Output.device c.pass.new.writer).written c.args.progress.now.sent (held_by c.args.progress.now)
-    (Err c.in_err-pass.field-0.0) (held_by c.pass.new.self) t.0) (sym is) c.in_err-pass.ensures.lines)
-
-pub returns-clause-lines : goal.returns-clause-lines
-returns-clause-lines g c =
-    let is = hop_is_told c.args.self.now c.args.number c.args.one c.lasting.result (told_of c.args.progress.now)
-    c.requires.teller c.requires.is c.lasting.ensures in
-    subst (λ (t : List (List ℕ) × PartsSoFar). HasAdded (g.O.Output.device c.args.writer.now).written
-    (g.O.Output.device c.pass.new.writer).written c.args.progress.now.sent (held_by c.args.progress.now)
-    (Ok c.pass.new.self.sent) (held_by c.pass.new.self) t.0) (sym is) c.in_ok-pass.ensures.lines
-
-pub returns-clause-told : goal.returns-clause-told
-returns-clause-told g c =
-    let hop = seen_placed c.args.one in
-    let begun = c.args.progress.now.time in
-    let ended = begun + c.lasting.result in
-    let is = hop_is_told c.args.self.now c.args.number c.args.one c.lasting.result (told_of c.args.progress.now)
-    c.requires.teller c.requires.is c.lasting.ensures in
-    line_told (placed_line (entry_in c.args.self.now.times.now) begun ended hop) ended
-    (g.O.Output.called c.args.writer.now) (g.O.Output.called c.pass.new.writer) c.args.progress.now c.pass.new.self
-    (piece_told c.args.self.now c.args.number (piece.Hop c.args.one) (told_of c.args.progress.now)) is
-    c.in_ok-pass.ensures.moved
+pub returns : goal.returns
+returns g c =
+    let old = c.args.progress.now in
+    let ended = old.time + c.lasting.result in
+    told_as (sym (hop_is_told c.args.self.now c.args.number c.args.one c.lasting.result (told_of old) c.requires.teller
+    c.requires.is c.lasting.ensures))
+    (told_line (placed_line (entry_in c.args.self.now.times.now) old.time ended (seen_placed c.args.one))
+    (at_time ended (told_of old)) old refl refl c.put_placed.ensures)

@@ -38,7 +38,6 @@ returns c = λ g visits same out.
           (sym (reordered_same c.in_ok-by_kind.by_kind rows c.sort_by_key.ensures.reordered.2 kind))
           (before.found kind);
       apart = unique_same rows c.sort_by_key.ensures.unique;
-      few = omega (arith, c.sort_by_key.ensures.reordered.1, before.few);
     } in
     let own = setting r.0 c.args.times.now r.1.0 in
     let own_laid = hops_laid r.0 c.args.times.now r.1.0 walk r.1.1 in

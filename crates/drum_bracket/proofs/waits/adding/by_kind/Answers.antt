@@ -1,8 +1,8 @@
 -- Of by_kind: each kind that a piece so far is of has the sums over these pieces, and no other has
 -- any. The walk's hops are few and its time is short, so the sums have room.
-use Rattle.std.proofs.Common.{◌≡◌, ◌+◌, ◌∙◌, ◌≤◌, ℕ, Bool, true, false, Option, Some, None, ap, arith, is_some, subst, sym}
-use Rattle.std.specs.Prelude.{cond, if◌then◌else◌}
-use Rattle.indexmap.specs.IndexMap.{get, index_map_len}
+use Rattle.std.proofs.Common.{◌≡◌, ◌+◌, ◌∙◌, true, Option, Some, None, ap, subst, sym}
+use Rattle.std.specs.Prelude.{cond}
+use Rattle.indexmap.specs.IndexMap.{get}
 use Rattle.drum_times.specs.Entries.{entry_in}
 use Rattle.drum_walks.specs.declared.piece.Placed.{Placed}
 use Rattle.drum_walks.specs.Pieces.{seen_placed}
@@ -18,11 +18,6 @@ use Rattle.drum_bracket.proofs.RowSteps.{row_begun, row_joined, rows_kept, rows_
 use Rattle.drum_bracket.proofs.waits.adding.by_kind.Goals as goal
 use Rattle.drum_bracket.proofs.waits.adding.by_kind.Goals.{in-Some-get, in-None}
 
-more_rows : (there : Bool) (before after n : ℕ) → before ≤ n → after ≡ before + (if there then 0 else 1)
-    → after ≤ n + 1
-more_rows true before after n few more = omega (arith, few, more)
-more_rows false before after n few more = omega (arith, few, more)
-
 pub loop-number-preserved-in_default : goal.loop-number-preserved-in_default
 loop-number-preserved-in_default c =
     let times = entry_in c.args.times.now in
@@ -35,7 +30,6 @@ loop-number-preserved-in_default c =
           (no_hop c.piece-item.result (sym c.in_default.is ∙ c.hop_in.ensures)) (get same_kind c.loop-number.rows)
           c.loop-number.invariant.found;
       apart = c.loop-number.invariant.apart;
-      few = omega (arith, c.loop-number.invariant.few);
     }
 
 -- ---- where it is a hop
@@ -120,6 +114,4 @@ loop-number-preserved c =
           ≡ cond (same_kind k other) (Some c.match-get.row) (get same_kind old other)) c.kind_of-kind.ensures
           (update_same old new kind c.match-get.row c.in_ok-insert.ensures.updates.0));
       apart = unique_same new c.in_ok-insert.ensures.unique;
-      few = more_rows (is_some c.in_ok-insert.field-0) (index_map_len old) (index_map_len new) n
-          c.loop-number.invariant.few c.in_ok-insert.ensures.len;
     }
