@@ -1,6 +1,5 @@
 mod Beginning
 mod Drawn
-mod FewLists
 mod Flags
 mod Followed
 mod Leading

@@ -4,7 +4,7 @@ use Rattle.std.proofs.Common.{subst, ◌∙◌, arith, append_assoc, append-nil,
 use Rattle.std.proofs.Common.{Result, Ok, Err}
 use Rattle.std.proofs.Common.{refl}
 use Rattle.std.proofs.lemmas.List.{take-append-le}
-use Rattle.std.specs.Prelude.{MatchResult, OnOk, if◌then◌else◌}
+use Rattle.std.specs.Prelude.{MatchOption, OnSome, if◌then◌else◌}
 use Rattle.std.specs.Io.KnownBytes.{Appends}
 use Rattle.drum_core.specs.declared.op.Op.{Op}
 use Rattle.drum_core.specs.Location.{is_location}
@@ -126,50 +126,15 @@ module _ (g : Setting) (given : Given) (begun : Begun) (is : IsBegun g given beg
     replayed = followed.of_run given is.are;
   }
 
--- what is known of a value, or of an error
-pub either_map : {A E : Type 0} {P P' : A → Type 0} {Q Q' : E → Type 0} (result : Result A E) → MatchResult result P Q
-    → ((a : A) → P a → P' a) → ((e : E) → Q e → Q' e) → MatchResult result P' Q'
-either_map (Ok a) p f h = f a p
-either_map (Err e) q f h = h e q
+-- what is known of a value, or where there is none
+pub either_map : {A : Type 0} {N N' : Type 0} {P P' : A → Type 0} (result : Option A) → MatchOption result N P
+    → (N → N') → ((a : A) → P a → P' a) → MatchOption result N' P'
+either_map None p f h = f p
+either_map (Some a) p f h = h a p
 
-pub ok_map : {A E : Type 0} {P P' : Type 0} (result : Result A E) → OnOk result P → (P → P') → OnOk result P'
-ok_map (Ok a) p f = f p
-ok_map (Err e) p f = tt
-
--- ---- what goes out
-
--- a text that goes out whole, and another behind it
-pub gets_behind : (old mid new : Device) (prefix text : List ℕ) (ending status : Status) → GetsAll old mid prefix
-    → GetsResult mid new text ending status
-    → GetsResult old new (prefix ++ text) ending status
-gets_behind old mid new prefix text ending status all (inl (rest, is)) =
-    inl ((Appends-then old.written mid.written new.written prefix text all.0 rest.0, rest.1 ∙ all.1), is)
-gets_behind old mid new prefix text ending status all (inr (rest, is)) =
-    inr (
-      (
-        length prefix + rest.0,
-        omega (arith, rest.1, length-append prefix text),
-        subst (Appends old.written new.written) (sym (take_behind rest.0 prefix text))
-            (Appends-then old.written mid.written new.written prefix (take rest.0 text) all.0 rest.2),
-        rest.3 ∙ ap one_more all.1,
-      ),
-      is,
-    )
-
--- a text that is cut before another behind it
-pub gets_cut : (old new : Device) (count : ℕ) (prefix text : List ℕ) (ending : Status) → count < length prefix
-    → Appends old.written new.written (take count prefix) → new.failures ≡ one_more old.failures
-    → GetsResult old new (prefix ++ text) ending Failed
-gets_cut old new count prefix text ending short gone failed =
-    inr (
-      (
-        count,
-        omega (arith, short, length-append prefix text),
-        subst (Appends old.written new.written) (sym (take-append-le count prefix text (omega (arith, short)))) gone,
-        failed,
-      ),
-      refl,
-    )
+pub some_map : {A : Type 0} {P P' : Type 0} (result : Option A) → OnSome result P → (P → P') → OnSome result P'
+some_map None p f = tt
+some_map (Some a) p f = f p
 
 -- what is told of the notes: nothing before any step
 pub none_told : (notes : Notes) (strides : List Stride) (verdict : Verdict) → comes_at_once verdict ≡ true

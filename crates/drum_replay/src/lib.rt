@@ -4,8 +4,8 @@
 //! Code, from the bottom up. `following` is a run that is followed step by step. `met` is which
 //! patterns of a list were met, and `coverage` how much of its notes a run has come to, with
 //! `coverage_lines`, its lines. `replaying` begins a run, of a replay or of a trace, and has
-//! `replay`. `tracing` writes the steps of a trace, what they come to of the notes, and its
-//! verdict. `picturing` follows a run as `replay` does, and draws it.
+//! `replay`. `tracing` puts the steps of a trace, what they come to of the notes, and its verdict
+//! on a sheet. `picturing` follows a run as `replay` does, and draws it.
 //!
 //! Definitions, in the order to read them: `Replay` is the verdict on a run, and its trace, with
 //! `Given`, what inputs give to it, `Coverage` how much of its notes it comes to, and `RunReply`
@@ -14,9 +14,8 @@
 //!
 //! Proofs. `Beginning`, `TraceBegun`, `Followed` and `Leading` have how a run begins and is
 //! followed, and `Traced` the lines of its steps. `Flags`, `Seen` and `LineTexts` have what a
-//! coverage has seen, and its lines; `FewLists`, that notes have no more lists than there are
-//! locations. `Drawn` has a replay before its first step, and its verdict where it is drawn.
-//! `NoLine` says that what is said of a trace is no fault's line, for `drum_tool`.
+//! coverage has seen, and its lines. `Drawn` has a replay before its first step, and its verdict
+//! where it is drawn. `NoLine` says that what is said of a trace is no fault's line, for `drum_tool`.
 #![tactic(auto)]
 
 mod coverage;

@@ -1,17 +1,15 @@
 //! A run that is followed with a line for each of its steps, and its verdict behind them.
 
-ghost use Rattle.std.specs.Prelude.{◌≡◌, ◌+◌, ◌^◌, ◌<◌, ◌≤◌, ◌++◌, List, MatchResult, OnOk, []};
+ghost use Rattle.std.specs.Prelude.{◌≡◌, ◌^◌, ◌<◌, ◌++◌, true, List, MatchOption, OnSome, None, []};
 ghost use Rattle.std.specs.Prelude.{length};
 ghost use Rattle.drum_times.specs.Entries.{entry_in};
 ghost use Rattle.drum_machine.specs.Run.{Stride};
 ghost use Rattle.drum_flow.specs.SettingOf.{setting};
 ghost use Rattle.drum_flow.specs.Bounded.{IsBounded};
-ghost use Rattle.drum_devices.specs.Device.{failures_after};
-ghost use Rattle.drum_lines.specs.Sent.{IsWritten};
 ghost use Rattle.drum_devices.specs.Device.{Device};
-ghost use Rattle.drum_lines.specs.Output.{GetsResult, Tells};
+ghost use Rattle.drum_sheet.specs.Stands.{Passes};
+ghost use Rattle.drum_lines.specs.Output.{Tells};
 ghost use Rattle.drum_lines.specs.Reply.{Reply};
-ghost use Rattle.drum_lines.specs.Status.{status_of};
 ghost use Rattle.drum_lines.specs.VerdictText.{verdict_text};
 ghost use Rattle.drum_hop_lines.specs.TraceText.{stride_lines};
 ghost use Rattle.drum_documents.specs.Documents.{setting_of};
@@ -24,20 +22,21 @@ ghost use Rattle.drum_replay.specs.Following.{state_of, waits_of};
 ghost use Rattle.drum_replay.specs.Replay.{Given, IsTraced, IsTracedInPart};
 
 use crate::coverage::Coverage;
-use crate::coverage_lines::send_coverage;
+use crate::coverage_lines::put_coverage;
 use crate::following::Following;
 use crate::replaying::{Begun, BegunTrace};
 use drum_deck::Deck;
 use drum_devices::Output;
 use drum_documents::Documents;
-use drum_hop_lines::{Page, pass_step};
-use drum_lines::{Limit, Status, WriteFault, send, tell_verdict};
+use drum_hop_lines::put_step;
+use drum_lines::{Limit, Status, end_result, put_verdict};
 use drum_machine::{Left, Verdict};
+use drum_sheet::Sheet;
 use drum_times::{Notes, Times};
 
-/// Follows a run and writes a line for each of its steps, many at a time, up to the one with which
-/// it leaves the notes or stops, and tells the verdict.
-fn send_steps<O: Output>(
+/// Follows a run and puts a line for each of its steps, up to the one with which it leaves the
+/// notes or stops, and tells the verdict; none where a write fails before.
+fn put_steps<O: Output>(
     deck: &Deck,
     times: &Times,
     notes: &Notes,
@@ -45,9 +44,9 @@ fn send_steps<O: Output>(
     most: u64,
     angle: u8,
     coverage: &mut Coverage,
+    sheet: &mut Sheet,
     out: &mut O,
-) -> Result<Verdict, WriteFault>
-    requires called { O.called out.old ≤ 2 ^ 62 }
+) -> Option<Verdict>
     requires fresh { HasSeen notes.now [] coverage.old }
     requires below { most < 2 ^ 50 }
     requires bounded { IsBounded (setting deck.now times.now notes.now) most }
@@ -55,63 +54,53 @@ fn send_steps<O: Output>(
     requires begins { CanBegin (setting deck.now times.now notes.now) (state_of following) }
     requires follows { IsFollowing (setting deck.now times.now notes.now) (state_of following)
         (waits_of following) most [] following }
-    ensures written { (strides : List Stride)
-        × MatchResult result
+    ensures passes { (strides : List Stride)
+        × MatchOption result
+        (AreUnderWay (setting deck.now times.now notes.now) (state_of following)
+        (waits_of following) strides)
         (IsFollowed (setting deck.now times.now notes.now) (state_of following)
         (waits_of following) most strides)
-        (λ _. AreUnderWay (setting deck.now times.now notes.now) (state_of following)
-        (waits_of following) strides)
-        × IsWritten (O.device out.old).written (O.device out.new).written result
+        × Passes (O.device out.old) sheet.old (O.device out.new) sheet.new
         (stride_lines (entry_in times.now) 1 strides)
-        × OnOk result (HasSeen notes.now strides coverage.new) }
-    ensures failures { (O.device out.new).failures
-        ≡ failures_after result (O.device out.old).failures }
-    ensures calls { O.called out.new + 2 ^ 41 ≤ O.called out.old + 2 ^ 60 }
+        × OnSome result (HasSeen notes.now strides coverage.new) }
+    ensures lost { result ≡ None → sheet.new.is_lost ≡ true }
 {
-    let mut sent = 0;
-    let mut page = Page::new();
     loop {
         let before = following.used();
         let (step, verdict) = following.advance(deck, times, notes, most);
         coverage.see(notes, &step);
         let (number, machine) = (following.steps, &following.machine);
-        sent = pass_step(
-            out, sent, &mut page, times, angle, number, before, &step, machine,
-        )?;
+        put_step(sheet, out, times, angle, number, before, &step, machine);
         if let Some(verdict) = verdict {
-            send(out, sent, &[page.bytes()])?;
-            return Ok(verdict);
+            return Some(verdict);
+        }
+        if sheet.is_lost() {
+            return None;
         }
     }
 }
 
-/// Writes a line for each step of a run, none where its verdict comes before any, and tells the
-/// verdict.
-///
-/// # Errors
-///
-/// Where a write fails: then a prefix of the lines has gone out.
-fn send_trace<O: Output>(
+/// Puts a line for each step of a run, none where its verdict comes before any, and tells the
+/// verdict; none where a write fails before.
+fn put_trace<O: Output>(
     documents: &Documents,
     begun: Begun,
     coverage: &mut Coverage,
+    sheet: &mut Sheet,
     out: &mut O,
-) -> Result<Verdict, WriteFault>
-    requires called { O.called out.old ≤ 2 ^ 62 }
+) -> Option<Verdict>
     requires ready { IsReady (setting_of documents.now) begun }
     requires fresh { HasSeen documents.now.notes [] coverage.old }
-    ensures written { (given : Given) → IsBegun (setting_of documents.now) given begun
+    ensures passes { (given : Given) → IsBegun (setting_of documents.now) given begun
         → (strides : List Stride)
-        × MatchResult result (IsTraced (setting_of documents.now) given begun.most strides)
-        (λ _. IsTracedInPart (setting_of documents.now) given strides)
-        × IsWritten (O.device out.old).written (O.device out.new).written result
+        × MatchOption result (IsTracedInPart (setting_of documents.now) given strides)
+        (IsTraced (setting_of documents.now) given begun.most strides)
+        × Passes (O.device out.old) sheet.old (O.device out.new) sheet.new
         (stride_lines (entry_in documents.now.times) 1 strides)
-        × OnOk result (HasSeen documents.now.notes strides coverage.new) }
-    ensures failures { (O.device out.new).failures
-        ≡ failures_after result (O.device out.old).failures }
-    ensures calls { O.called out.new + 2 ^ 41 ≤ O.called out.old + 2 ^ 60 }
-    ensures sized { OnOk result
+        × OnSome result (HasSeen documents.now.notes strides coverage.new) }
+    ensures sized { OnSome result
         (length coverage.new.met.items ≡ length documents.now.notes.lists) }
+    ensures lost { result ≡ None → sheet.new.is_lost ≡ true }
 {
     let Begun {
         following,
@@ -120,19 +109,20 @@ fn send_trace<O: Output>(
         verdict,
         ..
     } = begun;
-    match verdict {
-        Some(verdict) => Ok(verdict),
-        None => send_steps(
-            &documents.deck,
-            &documents.times,
-            &documents.notes,
-            following,
-            most,
-            angle,
-            coverage,
-            out,
-        ),
+    if let Some(verdict) = verdict {
+        return Some(verdict);
     }
+    put_steps(
+        &documents.deck,
+        &documents.times,
+        &documents.notes,
+        following,
+        most,
+        angle,
+        coverage,
+        sheet,
+        out,
+    )
 }
 
 /// Whether the verdict comes before any step.
@@ -148,53 +138,47 @@ fn comes_at_once(verdict: &Verdict) -> bool
     )
 }
 
-/// Writes how much of its notes a run with this verdict has come to, nothing where the verdict
-/// comes before any step.
-fn send_needed<O: Output>(
+/// Puts how much of its notes a run with this verdict has come to, nothing where the verdict comes
+/// before any step.
+fn put_needed<O: Output>(
+    sheet: &mut Sheet,
     out: &mut O,
     notes: &Notes,
     coverage: &Coverage,
     verdict: &Verdict,
-) -> Result<(), WriteFault>
-    requires called { O.called out.old + 2 ^ 40 ≤ 2 ^ 62 + 2 ^ 60 }
-    requires sized { length coverage.now.met.items ≡ length notes.now.lists }
-    ensures written { (strides : List Stride) → HasSeen notes.now strides coverage.now
-        → IsWritten (O.device out.old).written (O.device out.new).written result
+)
+    requires { length coverage.now.met.items ≡ length notes.now.lists }
+    ensures { (strides : List Stride) → HasSeen notes.now strides coverage.now
+        → Passes (O.device out.old) sheet.old (O.device out.new) sheet.new
         (coverage_lines notes.now strides verdict.now) }
-    ensures failures { (O.device out.new).failures
-        ≡ failures_after result (O.device out.old).failures }
-    ensures calls { O.called out.new ≤ O.called out.old + 2 ^ 40 }
 {
     if comes_at_once(verdict) {
-        return Ok(());
+        return;
     }
-    send_coverage(out, notes, coverage)
+    put_coverage(sheet, out, notes, coverage);
 }
 
-/// Writes how much of its notes a run has come to, and its verdict.
-fn tell_end<O: Output>(
+/// Puts how much of its notes a run has come to, and its verdict.
+fn put_end<O: Output>(
+    sheet: &mut Sheet,
     out: &mut O,
     limit: Limit,
     notes: &Notes,
     coverage: &Coverage,
     verdict: &Verdict,
-) -> Status
-    requires called { O.called out.old + 2 ^ 40 ≤ 2 ^ 62 + 2 ^ 60 }
-    requires sized { length coverage.now.met.items ≡ length notes.now.lists }
+)
+    requires { length coverage.now.met.items ≡ length notes.now.lists }
     ensures { (strides : List Stride) → HasSeen notes.now strides coverage.now
-        → GetsResult (O.device out.old) (O.device out.new)
-        (coverage_lines notes.now strides verdict.now ++ verdict_text limit verdict.now)
-        (status_of verdict.now) result }
+        → Passes (O.device out.old) sheet.old (O.device out.new) sheet.new
+        (coverage_lines notes.now strides verdict.now ++ verdict_text limit verdict.now) }
 {
-    match send_needed(out, notes, coverage, verdict) {
-        Ok(()) => tell_verdict(out, limit, verdict),
-        Err(_) => Status::Failed,
-    }
+    put_needed(sheet, out, notes, coverage, verdict);
+    put_verdict(sheet, out, limit, verdict);
 }
 
-/// Writes the steps of a run, how much of its notes these come to, and its verdict.
+/// Writes the steps of a run, how much of its notes these come to, and its verdict. Once a write
+/// fails the run is followed no further.
 pub fn tell_trace<O: Output>(out: &mut O, documents: &Documents, trace: BegunTrace) -> Status
-    requires called { O.called out.old ≤ 2 ^ 62 }
     requires ready { IsReady (setting_of documents.now) trace.begun }
     requires fresh { HasSeen documents.now.notes [] trace.coverage }
     ensures { (given : Given) → IsTraceBegun documents.now given trace
@@ -206,8 +190,13 @@ pub fn tell_trace<O: Output>(out: &mut O, documents: &Documents, trace: BegunTra
         mut coverage,
     } = trace;
     let limit = begun.limit;
-    match send_trace(documents, begun, &mut coverage, out) {
-        Ok(verdict) => tell_end(out, limit, &documents.notes, &coverage, &verdict),
-        Err(_) => Status::Failed,
+    let mut sheet = Sheet::new();
+    match put_trace(documents, begun, &mut coverage, &mut sheet, out) {
+        Some(verdict) => {
+            let notes = &documents.notes;
+            put_end(&mut sheet, out, limit, notes, &coverage, &verdict);
+            end_result(sheet, out, Status::after(&verdict))
+        }
+        None => Status::Failed,
     }
 }

@@ -1,39 +1,34 @@
--- Of tell_trace: the lines of the strides go out first and what they came to with the verdict behind
--- them, so together they are the reply of a trace. Where a write fails, the reply has gone out in
--- part, and the status says so.
-use Rattle.std.proofs.Common.{ℕ, List, ◌++◌, append_assoc, arith, inl, inr, refl, subst, sym}
-use Rattle.drum_lines.specs.Status.{status_of}
-use Rattle.drum_lines.specs.VerdictText.{verdict_text}
+-- Of tell_trace: the lines of the strides are put first and what they came to with the verdict behind
+-- them, so together they are the reply of a trace. Where a write fails, the lines of the strides so
+-- far have gone out in part, and the status says so.
+use Rattle.std.proofs.Common.{ℕ, List, [], ◌++◌, append_assoc, inl, inr, refl, subst, sym}
+use Rattle.drum_lines.specs.declared.status.Status.{Status}
 use Rattle.drum_lines.specs.Output.{GetsResult}
+use Rattle.drum_lines.specs.VerdictText.{verdict_text}
 use Rattle.drum_hop_lines.specs.TraceText.{stride_lines}
-use Rattle.drum_documents.specs.Documents.{setting_of}
 use Rattle.drum_replay.specs.Coverage.{coverage_lines}
+use Rattle.drum_sheet.proofs.Passing.{◌⊳◌, passes_as, prefix_of_lost}
+use Rattle.drum_documents.specs.Documents.{setting_of}
 use Rattle.drum_replay.specs.RunReply.{cut_reply, trace_reply}
-use Rattle.drum_replay.proofs.Traced.{gets_behind}
 use Rattle.drum_replay.proofs.tracing.tell_trace.Goals as goal
 
-pub returns-in-Ok : goal.returns-in-Ok
-returns-in-Ok g c given is =
+pub returns-in-Some : goal.returns-in-Some
+returns-in-Some g c given is =
     let all = setting_of c.args.documents.now in
-    let notes = c.args.documents.now.notes in
-    let verdict = c.in-Ok.verdict in
-    let written = c.in-Ok.ensures.written given is.begun_of in
-    let strides = written.0 in
+    let verdict = c.in-Some.verdict in
+    let passes = c.in-Some.ensures.passes given is.begun_of in
+    let strides = passes.0 in
     let by = c.args.trace.begun.limit in
-    let old = g.O.Output.device c.args.out.now in
-    let mid = g.O.Output.device c.send_trace.new.out in
-    let new = g.O.Output.device c.tell_end.new.out in
     let steps : List ℕ = stride_lines all.times 1 strides in
-    let told : List ℕ = coverage_lines notes strides verdict in
+    let told : List ℕ = coverage_lines all.notes strides verdict in
     let end : List ℕ = verdict_text by verdict in
-    let here : GetsResult old new (steps ++ (told ++ end)) (status_of verdict) c.tell_end.result =
-    gets_behind old mid new steps (told ++ end) (status_of verdict) c.tell_end.result
-    (written.2, omega (arith, c.in-Ok.ensures.failures)) (c.tell_end.ensures strides written.3) in (
+    let put = passes_as (sym (append_assoc steps told end)) (passes.2 ⊳ c.put_end.ensures strides passes.3) in (
       trace_reply all by strides verdict,
-      (is.own_words, (by, c.args.trace.begun.most, is.limited, inl (strides, verdict, written.1, refl))),
+      (is.own_words, (by, c.args.trace.begun.most, is.limited, inl (strides, verdict, passes.1, refl))),
       (λ err. (
-        subst (λ (text : List ℕ). GetsResult old new text (status_of verdict) c.tell_end.result)
-            (sym (append_assoc steps told end)) here,
+        subst (λ (done : Status). GetsResult (g.O.Output.device c.args.out.now) (g.O.Output.device c.end_result.new.out)
+            (steps ++ told ++ end) done c.end_result.result) c.after.ensures
+            (c.end_result.ensures _ _ (put.stands _ [] (c.new-sheet.ensures _))),
         refl,
       )),
     )
@@ -41,11 +36,12 @@ returns-in-Ok g c given is =
 pub returns : goal.returns
 returns g c given is =
     let all = setting_of c.args.documents.now in
-    let written = c.in-Err.ensures.written given is.begun_of in (
-      cut_reply all written.0,
-      (is.own_words, (c.args.trace.begun.limit, c.args.trace.begun.most, is.limited, inr (written.0, written.1, refl))),
+    let passes = c.in-None.ensures.passes given is.begun_of in (
+      cut_reply all passes.0,
+      (is.own_words, (c.args.trace.begun.limit, c.args.trace.begun.most, is.limited, inr (passes.0, passes.1, refl))),
       (λ err. (
-        (c.in-Err.field-0.sent, written.2.0, written.2.1, c.in-Err.ensures.failures),
+        prefix_of_lost (g.O.Output.device c.args.out.now) (g.O.Output.device c.put_trace.new.out) c.put_trace.new.sheet _
+            (c.in-None.ensures.lost refl) (passes.2.stands _ [] (c.new-sheet.ensures _)),
         refl,
         refl,
       )),
