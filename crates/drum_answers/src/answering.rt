@@ -1,6 +1,6 @@
 //! The answers to questions about documents, each written to an output.
 
-ghost use Rattle.std.specs.Prelude.{◌≡◌, ◌^◌, ◌≤◌, IfOk, IfErr};
+ghost use Rattle.std.specs.Prelude.{◌≡◌, IfErr};
 ghost use Rattle.drum_lines.specs.Does.{Does};
 ghost use Rattle.drum_devices.specs.Device.{Device};
 ghost use Rattle.drum_limits.specs.Limits.{HaveNoBound, IsAnalysisFault, IsBracket};
@@ -44,7 +44,6 @@ fn say_bound<O: Output>(alloc: Global, documents: &Documents, out: &mut O) -> Re
 
 /// Writes the report.
 fn say_report<O: Output>(alloc: Global, documents: &Documents, out: &mut O) -> Result<Status, Fault>
-    requires { O.called out.old ≤ 2 ^ 62 }
     ensures does { (err : Device) → Does (SaysReport documents.now) (IsAnalysisFault documents.now)
         (O.device out.old) (O.device out.new) err err result }
     ensures spared { IfErr result (λ _. out.new ≡ out.old) }
@@ -60,7 +59,6 @@ fn say_rounds<O: Output>(
     bracket: &Bracket,
     out: &mut O,
 ) -> Result<Status, Fault>
-    requires called { O.called out.old ≤ 2 ^ 62 }
     requires none { HaveNoBound documents.now }
     requires right { IsBracket documents.now bracket.now }
     ensures does { (err : Device) → Does (ByEither SaysWalk SaysRounds documents.now)
@@ -74,7 +72,6 @@ fn say_rounds<O: Output>(
 
 /// Writes a worst walk.
 fn say_walk<O: Output>(alloc: Global, documents: &Documents, out: &mut O) -> Result<Status, Fault>
-    requires { O.called out.old ≤ 2 ^ 62 }
     ensures does { (err : Device) → Does (ByEither SaysWalk SaysRounds documents.now)
         (IsCeilingFault documents.now)
         (O.device out.old) (O.device out.new) err err result }
@@ -94,7 +91,6 @@ fn say_rounds_waits<O: Output>(
     bracket: &Bracket,
     out: &mut O,
 ) -> Result<Status, Fault>
-    requires called { O.called out.old ≤ 2 ^ 62 }
     requires none { HaveNoBound documents.now }
     requires right { IsBracket documents.now bracket.now }
     ensures does { (err : Device) → Does (ByEither SaysWaits SaysRoundsWaits documents.now)
@@ -113,8 +109,7 @@ fn say_bound_waits<O: Output>(
     analysis: &Analysis,
     out: &mut O,
 ) -> Result<Status, Fault>
-    requires called { O.called out.old ≤ 2 ^ 62 }
-    requires right { IsBasis documents.now (bases.Bound analysis.now) }
+    requires { IsBasis documents.now (bases.Bound analysis.now) }
     ensures does { (err : Device) → Does (ByEither SaysWaits SaysRoundsWaits documents.now)
         (IsCeilingFault documents.now)
         (O.device out.old) (O.device out.new) err err result }
@@ -126,7 +121,6 @@ fn say_bound_waits<O: Output>(
 
 /// Writes where the word times of a worst walk go.
 fn say_waits<O: Output>(alloc: Global, documents: &Documents, out: &mut O) -> Result<Status, Fault>
-    requires { O.called out.old ≤ 2 ^ 62 }
     ensures does { (err : Device) → Does (ByEither SaysWaits SaysRoundsWaits documents.now)
         (IsCeilingFault documents.now)
         (O.device out.old) (O.device out.new) err err result }
@@ -141,7 +135,6 @@ fn say_waits<O: Output>(alloc: Global, documents: &Documents, out: &mut O) -> Re
 
 /// Writes the table of worst times.
 fn say_table<O: Output>(alloc: Global, documents: &Documents, out: &mut O) -> Result<Status, Fault>
-    requires { O.called out.old ≤ 2 ^ 62 }
     ensures does { (err : Device) → Does (SaysTable documents.now) (IsAnalysisFault documents.now)
         (O.device out.old) (O.device out.new) err err result }
     ensures spared { IfErr result (λ _. out.new ≡ out.old) }
@@ -229,7 +222,6 @@ fn say_ceiling<O: Output>(
     documents: &Documents,
     out: &mut O,
 ) -> Result<Status, Fault>
-    requires { O.called out.old ≤ 2 ^ 62 }
     ensures does { (err : Device) → Does (SaysCeiling documents.now) (IsCeilingFault documents.now)
         (O.device out.old) (O.device out.new) err err result }
     ensures spared { IfErr result (λ _. out.new ≡ out.old) }
@@ -250,7 +242,6 @@ pub fn answer_question<O: Output>(
     documents: &Documents,
     out: &mut O,
 ) -> Result<Status, Fault>
-    requires { O.called out.old ≤ 2 ^ 62 }
     ensures does { (err : Device) → Does (Says question documents.now)
         (Refuses question documents.now) (O.device out.old) (O.device out.new) err err result }
     ensures spared { IfErr result (λ _. out.new ≡ out.old) }

@@ -1,6 +1,5 @@
 //! What is said of documents, written to standard output, and the status after it.
 
-ghost use Rattle.std.specs.Prelude.{◌≡◌, ◌^◌, ◌≤◌};
 ghost use Rattle.drum_times.specs.Entries.{entry_in};
 ghost use Rattle.drum_bound.specs.AnalysisOf.{angle_of, bound_of, visits_of};
 ghost use Rattle.drum_lines.specs.Output.{GetsResult};
@@ -19,36 +18,36 @@ ghost use Rattle.drum_bracket.specs.RoundsWaitsOf.{listed};
 ghost use Rattle.drum_limits.specs.Limits.{IsBracket};
 
 use drum_bound::Analysis;
-use drum_bracket::{Outline, WaitsInRounds, list_rounds, list_rounds_waits, report_ceiling};
+use drum_bracket::{Outline, WaitsInRounds, put_ceiling, put_rounds, put_rounds_waits};
 use drum_ceiling::Bracket;
 use drum_devices::Output;
 use drum_documents::Documents;
 use drum_graph::{Graph, put_graph};
-use drum_lines::{Status, end_result, ended};
-use drum_listing::{Table, Waits, list_table, list_waits, list_walk, report};
+use drum_lines::{Status, end_result};
+use drum_listing::{Table, Waits, put_table, put_waits, put_walk, report};
 use drum_sheet::Sheet;
 
 /// Writes the report of an analysis.
 pub fn tell_report<O: Output>(out: &mut O, documents: &Documents, analysis: &Analysis) -> Status
-    requires { O.called out.old ≤ 2 ^ 62 }
     ensures { GetsResult (O.device out.old) (O.device out.new)
         (report_text documents.now.deck documents.now.notes (visits_of analysis.now))
         Status.Done result }
 {
-    ended(
-        report(analysis, &documents.deck, &documents.notes, out),
-        Status::Done,
-    )
+    match report(analysis, &documents.deck, &documents.notes, out) {
+        Ok(()) => Status::Done,
+        Err(_) => Status::Failed,
+    }
 }
 
 /// Writes the worst walk of an analysis.
 pub fn tell_walk<O: Output>(out: &mut O, documents: &Documents, analysis: &Analysis) -> Status
-    requires { O.called out.old ≤ 2 ^ 62 }
     ensures { GetsResult (O.device out.old) (O.device out.new)
         (walk_text (entry_in documents.now.times) (angle_of analysis.now) (visits_of analysis.now)
         (bound_of analysis.now)) Status.Done result }
 {
-    ended(list_walk(analysis, &documents.times, out), Status::Done)
+    let mut sheet = Sheet::new();
+    put_walk(&mut sheet, out, analysis, &documents.times);
+    end_result(sheet, out, Status::Done)
 }
 
 /// Writes the walk beside a ceiling, by its outline.
@@ -58,16 +57,14 @@ pub fn tell_rounds<O: Output>(
     bracket: &Bracket,
     outline: Outline,
 ) -> Status
-    requires called { O.called out.old ≤ 2 ^ 62 }
     requires right { IsBracket documents.now bracket.now }
     requires outlined { IsOutlineOf bracket.now.walk outline }
     ensures { GetsResult (O.device out.old) (O.device out.new)
         (rounds_text (entry_in documents.now.times) bracket.now) Status.Done result }
 {
-    ended(
-        list_rounds(outline, bracket, &documents.times, out),
-        Status::Done,
-    )
+    let mut sheet = Sheet::new();
+    put_rounds(&mut sheet, out, outline, bracket, &documents.times);
+    end_result(sheet, out, Status::Done)
 }
 
 /// Writes where the word times of the worst walk of an analysis go.
@@ -77,17 +74,15 @@ pub fn tell_waits<O: Output>(
     analysis: &Analysis,
     waits: &Waits,
 ) -> Status
-    requires called { O.called out.old ≤ 2 ^ 62 }
-    requires right { AreWaits (entry_in documents.now.times) (angle_of analysis.now)
+    requires { AreWaits (entry_in documents.now.times) (angle_of analysis.now)
         (visits_of analysis.now) waits.now }
     ensures { GetsResult (O.device out.old) (O.device out.new)
         (waits_text (entry_in documents.now.times) (angle_of analysis.now) (visits_of analysis.now)
         (firsts_of waits.now) (bound_of analysis.now)) Status.Done result }
 {
-    ended(
-        list_waits(waits, analysis, &documents.times, out),
-        Status::Done,
-    )
+    let mut sheet = Sheet::new();
+    put_waits(&mut sheet, out, waits, analysis, &documents.times);
+    end_result(sheet, out, Status::Done)
 }
 
 /// Writes where the word times of the walk beside a ceiling go.
@@ -97,26 +92,22 @@ pub fn tell_rounds_waits<O: Output>(
     bracket: &Bracket,
     waits: &WaitsInRounds,
 ) -> Status
-    requires { O.called out.old ≤ 2 ^ 62 }
     ensures { GetsResult (O.device out.old) (O.device out.new)
         (listed (entry_in documents.now.times) waits.now bracket.now) Status.Done result }
 {
-    ended(
-        list_rounds_waits(waits, bracket, &documents.times, out),
-        Status::Done,
-    )
+    let mut sheet = Sheet::new();
+    put_rounds_waits(&mut sheet, out, waits, bracket, &documents.times);
+    end_result(sheet, out, Status::Done)
 }
 
 /// Writes a table of worst times.
 pub fn tell_table<O: Output>(out: &mut O, documents: &Documents, table: &Table) -> Status
-    requires { O.called out.old ≤ 2 ^ 62 }
     ensures { GetsResult (O.device out.old) (O.device out.new)
         (table_text documents.now.notes.marks (rows_in table.now)) Status.Done result }
 {
-    ended(
-        list_table(table, documents.notes.marks(), out),
-        Status::Done,
-    )
+    let mut sheet = Sheet::new();
+    put_table(&mut sheet, out, table, documents.notes.marks());
+    end_result(sheet, out, Status::Done)
 }
 
 /// Writes a flow graph, or its outline.
@@ -132,10 +123,11 @@ pub fn tell_graph<O: Output>(out: &mut O, documents: &Documents, graph: &Graph) 
 
 /// Writes a ceiling and its walk.
 pub fn tell_ceiling<O: Output>(out: &mut O, documents: &Documents, bracket: &Bracket) -> Status
-    requires called { O.called out.old ≤ 2 ^ 62 }
-    requires right { IsBracket documents.now bracket.now }
+    requires { IsBracket documents.now bracket.now }
     ensures { GetsResult (O.device out.old) (O.device out.new)
         (ceiling_text documents.now.notes bracket.now) Status.Done result }
 {
-    ended(report_ceiling(bracket, &documents.notes, out), Status::Done)
+    let mut sheet = Sheet::new();
+    put_ceiling(&mut sheet, out, bracket, &documents.notes);
+    end_result(sheet, out, Status::Done)
 }

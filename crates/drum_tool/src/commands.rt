@@ -43,8 +43,7 @@ fn answer_of_files<S: Source, O: Output>(
     files: Files<'_>,
     out: &mut O,
 ) -> Result<Status, Fault>
-    requires source { S.failed source.old ≤ 2 ^ 61 }
-    requires out { O.called out.old ≤ 2 ^ 62 }
+    requires { S.failed source.old ≤ 2 ^ 61 }
     ensures does { (err : Device)
         → DoesCommand (commands.Answer question files.entry) (S.files source.old)
         (O.device out.old) (O.device out.new) err err result }
@@ -66,8 +65,7 @@ fn check_files<S: Source, O: Output, E: Output>(
     out: &mut O,
     err: &mut E,
 ) -> Result<Status, Fault>
-    requires source { S.failed source.old ≤ 2 ^ 61 }
-    requires out { O.called out.old ≤ 2 ^ 62 }
+    requires { S.failed source.old ≤ 2 ^ 61 }
     ensures does { DoesCommand (commands.Check files.entry name.entry) (S.files source.old)
         (O.device out.old) (O.device out.new)
         (E.device err.old) (E.device err.new) result }
@@ -92,8 +90,7 @@ fn replay_files<S: Source, O: Output>(
     inputs: &str,
     out: &mut O,
 ) -> Result<Status, Fault>
-    requires source { S.failed source.old ≤ 2 ^ 61 }
-    requires out { O.called out.old ≤ 2 ^ 62 }
+    requires { S.failed source.old ≤ 2 ^ 61 }
     ensures does { (err : Device)
         → DoesCommand (commands.Replay files.entry inputs.entry) (S.files source.old)
         (O.device out.old) (O.device out.new) err err result }
@@ -127,8 +124,7 @@ fn trace_files<S: Source, O: Output>(
     inputs: &str,
     out: &mut O,
 ) -> Result<Status, Fault>
-    requires source { S.failed source.old ≤ 2 ^ 61 }
-    requires out { O.called out.old ≤ 2 ^ 62 }
+    requires { S.failed source.old ≤ 2 ^ 61 }
     ensures does { (err : Device)
         → DoesCommand (commands.Trace files.entry inputs.entry) (S.files source.old)
         (O.device out.old) (O.device out.new) err err result }
@@ -150,8 +146,7 @@ fn draw_files<S: Source, O: Output>(
     inputs: &str,
     out: &mut O,
 ) -> Result<Status, Fault>
-    requires source { S.failed source.old ≤ 2 ^ 61 }
-    requires out { O.called out.old ≤ 2 ^ 62 }
+    requires { S.failed source.old ≤ 2 ^ 61 }
     ensures does { (err : Device)
         → DoesCommand (commands.DrawRun files.entry inputs.entry) (S.files source.old)
         (O.device out.old) (O.device out.new) err err result }
@@ -179,8 +174,7 @@ fn try_command<S: Source, O: Output, E: Output>(
     out: &mut O,
     err: &mut E,
 ) -> Result<Status, Fault>
-    requires source { S.failed source.old ≤ 2 ^ 61 }
-    requires out { O.called out.old ≤ 2 ^ 62 }
+    requires { S.failed source.old ≤ 2 ^ 61 }
     ensures does { DoesCommand command.entry (S.files source.old)
         (O.device out.old) (O.device out.new)
         (E.device err.old) (E.device err.new) result }
@@ -210,8 +204,7 @@ pub fn run_command<S: Source, O: Output, E: Output>(
     out: &mut O,
     err: &mut E,
 ) -> Status
-    requires source { S.failed source.old ≤ 2 ^ 61 }
-    requires out { O.called out.old ≤ 2 ^ 62 }
+    requires { S.failed source.old ≤ 2 ^ 61 }
     ensures counted { S.failed source.old ≤ S.failed source.new }
     ensures told { (reply : Reply)
         × Tells reply (O.device out.old) (O.device out.new)

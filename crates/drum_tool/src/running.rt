@@ -107,7 +107,6 @@ pub fn run<'a, S: Source, I: Input, O: Output, E: Output>(
 ) -> Status
     requires source { S.failed source.old ≤ 2 ^ 61 }
     requires input { I.called input.old ≤ 2 ^ 62 }
-    requires out { O.called out.old ≤ 2 ^ 62 }
     ensures told { (reply : Reply)
         × Tells reply (O.device out.old) (O.device out.new)
         (E.device err.old) (E.device err.new) result

@@ -123,8 +123,7 @@ pub fn bound_of_files<O: Output, E: Output>(
     out: &mut O,
     err: &mut E,
 ) -> Status
-    requires names { AreNames (deck.now ∷ times.now ∷ notes.now ∷ []) }
-    requires out { O.called out.old ≤ 2 ^ 62 }
+    requires { AreNames (deck.now ∷ times.now ∷ notes.now ∷ []) }
     ensures printed { result ≡ Status.Done → (bound : ℕ)
         × IsBoundOfFiles (text_of files.now deck.now) (text_of files.now times.now)
         (text_of files.now notes.now) bound

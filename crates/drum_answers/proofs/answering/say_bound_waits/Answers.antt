@@ -9,7 +9,7 @@ pub returns-clause-does : goal.returns-clause-does
 returns-clause-does g c err =
     let analysis = c.args.analysis.now in
     let waits = c.in_ok-waits.waits in
-    let is = c.requires.right in (
+    let is = c.requires in (
       waits_reply c.args.documents.now (angle_of analysis) (visits_of analysis) (firsts_of waits) (bound_of analysis),
       inl (
         is.0,

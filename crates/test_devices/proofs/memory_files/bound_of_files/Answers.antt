@@ -33,7 +33,7 @@ returns g c = record {
       let err' = g.E.Output.device c.run.new.err in
       let tells = λ (reply : Reply). Tells reply out out' err err' c.run.result in
       elim (c.bound_is_of_the_files.ensures c.args.deck.now c.args.times.now c.args.notes.now None told_of failures told.0 held
-      c.requires.names (same c.args.deck.now, (same c.args.times.now, (same c.args.notes.now, tt))) so.1) [
+      c.requires (same c.args.deck.now, (same c.args.times.now, (same c.args.notes.now, tt))) so.1) [
         | inl (bound, is, line) ↦
             let gets = subst tells line told.1 in
             elim gets.0 [
