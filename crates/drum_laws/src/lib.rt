@@ -2,8 +2,9 @@
 //! stands on this one, so the program is proved without it.
 //!
 //! Code. A law is the contract of a function that does nothing, or that calls other laws. Each file
-//! has the laws of the definitions of one crate, whose name it has: `flow` those of `drum_flow`
-//! (and `from_toml` those of `drum_toml`). (A law that another crate calls stands in the file
+//! has the laws of the definitions of one crate, whose name it has: `flow` those of `drum_flow`,
+//! `bound` those of `drum_bound`, as that a slower timing table never has a smaller bound (and
+//! `from_toml` those of `drum_toml`). (A law that another crate calls stands in the file
 //! `laws` of its own crate, and so do those of `drum_tool`, which tell in a sentence what `bound`
 //! prints, and of `drum_command`.)
 //!
