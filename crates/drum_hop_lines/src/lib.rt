@@ -8,19 +8,19 @@
 //! after a step. `acted` puts what a step did to words of the drum: the word that it wrote, or the
 //! card that it read or punched. `line` is what is put on a sheet as a line; `visit_line` and
 //! `step_line` put a line each. A `kind` is what hops have in common; `spent` is what one takes and
-//! waits, `sums` adds up what those of a kind take, and `waited` what all wait. `kind_line` puts the
-//! line of a kind, and `total_line` that of all hops. Numbers may be as large as a u128.
+//! waits, `sums` adds up what those of a kind take, and `waited` what all wait. `kind_line` puts
+//! the line of a kind, and `total_line` that of all hops. Numbers may be as large as a u128.
 //!
 //! Definitions, in the order to read them: `Moments`, `MomentsText`, `WalkText`, `HeldText` (what a
 //! machine holds after a step), `TraceText`, `Waits`, `WaitsText`. The others say what the code
-//! means by these. `StepOf` says which stride a step is of. `Pieces` are parts of lines, as the code
-//! puts them. `TimedHop` is a hop that is told, and `KindsOf` are kinds of hops and what they take
-//! and wait.
+//! means by these. `StepOf` says which stride a step is of. `Pieces` are parts of lines, as the
+//! code puts them. `TimedHop` is a hop that is told, and `KindsOf` are kinds of hops and what they
+//! take and wait.
 //!
-//! Proofs. `Lines` puts lines together of their pieces, and `Strides` has what a step's answer tells
-//! of its stride. Of kinds: `SameKinds` (`==` of kinds), `KindRows` (where a map has a kind's row,
-//! and how rows are sorted), and `Waiting` (how long a hop waits at most). `LaterMoments` has a
-//! hop's moments as they are at its angle. `AddingUp`, `WholeFits`, `DataAngles` and `NextAngles`
+//! Proofs. `Lines` puts lines together of their pieces, and `Strides` has what a step's answer
+//! tells of its stride. Of kinds: `SameKinds` (`==` of kinds), `KindRows` (where a map has a kind's
+//! row, and how rows are sorted), and `Waiting` (how long a hop waits at most). `LaterMoments` has
+//! a hop's moments as they are at its angle. `AddingUp`, `WholeFits`, `DataAngles` and `NextAngles`
 //! are on what hops take in all, and on the angles of their lines: crates above use them.
 #![tactic(auto)]
 

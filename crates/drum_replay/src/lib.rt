@@ -15,7 +15,8 @@
 //! Proofs. `Beginning`, `TraceBegun`, `Followed` and `Leading` have how a run begins and is
 //! followed, and `Traced` the lines of its steps. `Flags`, `Seen` and `LineTexts` have what a
 //! coverage has seen, and its lines. `Drawn` has a replay before its first step, and its verdict
-//! where it is drawn. `NoLine` says that what is said of a trace is no fault's line, for `drum_tool`.
+//! where it is drawn. `NoLine` says that what is said of a trace is no fault's line, for
+//! `drum_tool`.
 #![tactic(auto)]
 
 mod coverage;
