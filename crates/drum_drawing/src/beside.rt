@@ -2,9 +2,9 @@
 
 use crate::labels::LARGE_FONT;
 use crate::point::Point;
+use crate::svg::{Svg, draw};
 use crate::word::Word;
 use drum_scene::{Tallies, Walk};
-use std::alloc::AllocError;
 
 /// Where the row of 8000 to 8003 begins, in tenths of a pixel from the drum's centre.
 const LEFT: i64 = -2800;
@@ -31,27 +31,24 @@ pub fn beside_top(number: u16) -> Point {
 }
 
 /// Draws a word beside the drum.
-fn draw_box(text: &mut String, word: Word, walk: Walk) -> Result<(), AllocError> {
+fn draw_box(svg: &mut Svg, word: Word, walk: Walk) {
     let left = left_of(word.number);
-    write!(text, "<use href='#beside' x='{left}' y='{TOP}'")?;
-    word.finish(text, walk)?;
+    draw!(svg: "<use href='#beside' x='" left "' y='" TOP "'");
+    word.finish(svg, walk);
     let (ink, number, base) = (word.label_ink(), word.number, TOP + 145);
     let middle = left.saturating_add(200);
-    write!(
-        text,
-        "<text font-size='{LARGE_FONT}'{ink} x='{middle}' y='{base}'>{number}</text>\n"
-    )
+    draw!(svg: "<text font-size='" LARGE_FONT "'" ink " x='" middle "' y='" base "'>");
+    draw!(svg: number "</text>\n");
 }
 
 /// Draws those of 8000 to 8003 that the walk has to do with.
-pub fn draw_beside(text: &mut String, tallies: &Tallies, walk: Walk) -> Result<(), AllocError> {
+pub fn draw_beside(svg: &mut Svg, tallies: &Tallies, walk: Walk) {
     let most = tallies.most_time();
-    text.push_str("<defs><rect id='beside' width='400' height='220' rx='30' stroke-width='8'/>")?;
-    text.push_str("</defs>\n")?;
+    draw!(svg: "<defs><rect id='beside' width='400' height='220' rx='30' stroke-width='8'/>");
+    draw!(svg: "</defs>\n");
     for number in 8000..8004u16 {
         if let Some(word) = Word::of(tallies, number, most) {
-            draw_box(text, word, walk)?;
+            draw_box(svg, word, walk);
         }
     }
-    Ok(())
 }

@@ -5,9 +5,9 @@ use crate::ink::Ink;
 use crate::point::Point;
 use crate::rings::{RIM, Ring, ring_of};
 use crate::scale::scaled;
+use crate::svg::{Svg, draw, four};
 use crate::word::plural;
 use drum_scene::TakenEdge;
-use std::alloc::AllocError;
 
 /// With more edges than this arrows only hide them.
 const MOST_ARROWS: usize = 150;
@@ -22,68 +22,45 @@ fn end_at(rings: &[Ring], number: u16) -> Option<Point> {
 }
 
 /// Writes the curve of an edge between two different words: it bends inward.
-fn write_bow(text: &mut String, start: Point, end: Point) -> Result<(), AllocError> {
+fn write_bow(svg: &mut Svg, start: Point, end: Point) {
     let between = start.inward(end);
-    let (x, y) = (start.x, start.y);
-    write!(text, "<path d='M{x} {y}")?;
-    let (x, y) = (between.x, between.y);
-    write!(text, "Q{x} {y}")?;
-    let (x, y) = (end.x, end.y);
-    write!(text, " {x} {y}'")
+    draw!(svg: "<path d='M" start "Q" between " " end "'");
 }
 
 /// Writes the curve of an edge from a word to itself.
-fn write_loop(text: &mut String, rings: &[Ring], number: u16) -> Result<(), AllocError> {
+fn write_loop(svg: &mut Svg, rings: &[Ring], number: u16) {
     let radius = ring_of(rings, number).map_or(RIM, |ring| ring.inner);
     let angle = number % 50;
-    let Point { x, y } = Point::at(angle, radius);
-    write!(text, "<path d='M{x} {y}")?;
-    let low = radius.saturating_sub(420);
-    let Point { x, y } = Point::at(angle + 46, low);
-    write!(text, "C{x} {y}")?;
-    let Point { x, y } = Point::at(angle + 4, low);
-    write!(text, " {x} {y}")?;
-    let Point { x, y } = Point::at(angle, radius);
-    write!(text, " {x} {y}'")
+    let (low, ends) = (radius.saturating_sub(420), Point::at(angle, radius));
+    let (before, after) = (Point::at(angle + 46, low), Point::at(angle + 4, low));
+    draw!(svg: "<path d='M" ends "C" before " " after " " ends "'");
 }
 
 /// Draws an edge as a curve, this wide in tenths of a pixel.
-fn draw_curve(
-    text: &mut String,
-    rings: &[Ring],
-    one: TakenEdge,
-    width: u64,
-) -> Result<(), AllocError> {
+fn draw_curve(svg: &mut Svg, rings: &[Ring], one: TakenEdge, width: u64) {
     let (from, onto, taken) = (one.edge.from, one.edge.onto, one.taken);
     let (Some(start), Some(end)) = (end_at(rings, from), end_at(rings, onto)) else {
-        return Ok(());
+        return;
     };
     if from == onto && !is_beside(from) {
-        write_loop(text, rings, from)?;
+        write_loop(svg, rings, from);
     } else {
-        write_bow(text, start, end)?;
+        write_bow(svg, start, end);
     }
-    write!(text, " stroke-width='{width}'>")?;
+    draw!(svg: " stroke-width='" width "'>");
     let more = plural(taken);
-    write!(
-        text,
-        "<title>{from:04} to {onto:04}: taken {taken} time{more}</title></path>\n"
-    )
+    draw!(svg: "<title>" (four(from)) " to " (four(onto)) ": taken " taken " time" more);
+    draw!(svg: "</title></path>\n");
 }
 
 /// Draws the edges that the walk takes most, those that it takes more often wider.
-pub fn draw_curves(
-    text: &mut String,
-    rings: &[Ring],
-    edges: &[TakenEdge],
-) -> Result<(), AllocError> {
+pub fn draw_curves(svg: &mut Svg, rings: &[Ring], edges: &[TakenEdge]) {
     let more = if edges.len() > MOST_ARROWS {
         "opacity='.45'"
     } else {
         "opacity='.8' marker-end='url(#tip)'"
     };
-    let ink = Ink::Hop;
-    write!(text, "<g {ink} {more}>\n")?;
+    draw!(svg: "<g " (Ink::Hop) " " more ">\n");
     let most = edges.first().map_or(1, |one| one.taken);
     let wide = if most < 2 || edges.len() > MOST_ARROWS {
         8
@@ -91,12 +68,8 @@ pub fn draw_curves(
         28
     };
     for one in edges {
-        draw_curve(
-            text,
-            rings,
-            *one,
-            scaled(one.taken, most, wide).saturating_add(7),
-        )?;
+        let width = scaled(one.taken, most, wide).saturating_add(7);
+        draw_curve(svg, rings, *one, width);
     }
-    text.push_str("</g>\n")
+    draw!(svg: "</g>\n");
 }

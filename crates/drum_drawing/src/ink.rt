@@ -1,7 +1,7 @@
 //! What is drawn in which colour. The colours are attributes, so that any program which shows SVG
 //! has them; those for a dark page are a style over them, by the same classes (`page`).
 
-use std::fmt;
+use crate::svg::{Piece, Svg};
 
 /// What something is drawn in. It is written as the attributes of an element: its class, and its
 /// colour on a light page. The colours can be told apart by people who don't see red from green.
@@ -58,8 +58,8 @@ impl Ink {
     }
 }
 
-impl fmt::Display for Ink {
-    fn fmt<W: fmt::Write>(&self, f: &mut fmt::Formatter<W>) -> fmt::Result {
-        f.write_str(self.attributes())
+impl Piece for Ink {
+    fn draw(self, svg: &mut Svg) {
+        self.attributes().draw(svg);
     }
 }

@@ -2,9 +2,9 @@
 
 use crate::point::Point;
 use crate::rings::Ring;
+use crate::svg::{Svg, draw, four};
 use crate::word::Word;
 use drum_scene::{Tallies, Tenths};
-use std::alloc::AllocError;
 
 /// The height that a ring must have for locations to be written on its words, in tenths of a pixel.
 const INSIDE: i64 = 190;
@@ -37,7 +37,7 @@ fn tenths(count: u16) -> Tenths {
 }
 
 /// Writes a location on its word, along the radius, so that it is never upside down.
-fn draw_inside(text: &mut String, ring: Ring, word: Word) -> Result<(), AllocError> {
+fn draw_inside(svg: &mut Svg, ring: Ring, word: Word) {
     let word_at = word.number % 50 * 72;
     let middle = ring.middle();
     let (label_at, along) = if word_at < 1800 {
@@ -51,15 +51,12 @@ fn draw_inside(text: &mut String, ring: Ring, word: Word) -> Result<(), AllocErr
         LARGE_FONT
     };
     let (degrees, ink, number) = (tenths(label_at), word.label_ink(), word.number);
-    write!(
-        text,
-        "<text font-size='{size}'{ink} transform='rotate({degrees}) "
-    )?;
-    write!(text, "translate({along} 34)'>{number:04}</text>\n")
+    draw!(svg: "<text font-size='" size "'" ink " transform='rotate(" degrees ") ");
+    draw!(svg: "translate(" along " 34)'>" (four(number)) "</text>\n");
 }
 
 /// Writes a location beside its word, along the ring, so that it is never upside down.
-fn draw_after(text: &mut String, ring: Ring, number: u16) -> Result<(), AllocError> {
+fn draw_after(svg: &mut Svg, ring: Ring, number: u16) {
     let word_at = number % 50 * 72;
     let middle = ring.middle();
     let along = Point::end_of_word(middle).x.saturating_add(GAP);
@@ -74,11 +71,9 @@ fn draw_after(text: &mut String, ring: Ring, number: u16) -> Result<(), AllocErr
         )
     };
     let (degrees, base) = (tenths(label_at), up.saturating_add(28));
-    write!(
-        text,
-        "<text class='{anchor}' font-size='{SMALL_FONT}' transform='rotate({degrees}) "
-    )?;
-    write!(text, "translate({along} {base})'>{number:04}</text>\n")
+    draw!(svg: "<text class='" anchor "' font-size='" SMALL_FONT "' ");
+    draw!(svg: "transform='rotate(" degrees ") ");
+    draw!(svg: "translate(" along " " base ")'>" (four(number)) "</text>\n");
 }
 
 /// Whether a location has room behind its word: no other word of the band stands there.
@@ -95,42 +90,28 @@ fn has_room(ring: Ring, number: u16, tallies: &Tallies) -> bool {
 }
 
 /// Writes the location of a word on it or beside it, if there is room.
-fn draw_label(
-    text: &mut String,
-    ring: Ring,
-    word: Word,
-    tallies: &Tallies,
-) -> Result<(), AllocError> {
+fn draw_label(svg: &mut Svg, ring: Ring, word: Word, tallies: &Tallies) {
     if ring.height() >= INSIDE {
-        draw_inside(text, ring, word)
+        draw_inside(svg, ring, word);
     } else if ring.height() >= BESIDE && has_room(ring, word.number, tallies) {
-        draw_after(text, ring, word.number)
-    } else {
-        Ok(())
-    }
+        draw_after(svg, ring, word.number);
+    } else {}
 }
 
 /// Writes the locations of the words of a ring, where there is room.
-fn draw_ring_labels(
-    text: &mut String,
-    ring: Ring,
-    tallies: &Tallies,
-    most: u128,
-) -> Result<(), AllocError> {
+fn draw_ring_labels(svg: &mut Svg, ring: Ring, tallies: &Tallies, most: u128) {
     let first = ring.first();
     for number in first..first + 50 {
         if let Some(word) = Word::of(tallies, number, most) {
-            draw_label(text, ring, word, tallies)?;
+            draw_label(svg, ring, word, tallies);
         }
     }
-    Ok(())
 }
 
 /// Writes the locations of the words of the drum, where there is room.
-pub fn draw_labels(text: &mut String, rings: &[Ring], tallies: &Tallies) -> Result<(), AllocError> {
+pub fn draw_labels(svg: &mut Svg, rings: &[Ring], tallies: &Tallies) {
     let most = tallies.most_time();
     for ring in rings {
-        draw_ring_labels(text, *ring, tallies, most)?;
+        draw_ring_labels(svg, *ring, tallies, most);
     }
-    Ok(())
 }

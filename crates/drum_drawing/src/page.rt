@@ -3,10 +3,10 @@
 use crate::ink::Ink;
 use crate::layout::Layout;
 use crate::rings::Ring;
+use crate::svg::{Svg, draw, four};
 use crate::verdict::write_verdict;
 use drum_machine::Verdict;
 use drum_scene::{Kind, MOST_EDGES, Walk};
-use std::alloc::AllocError;
 
 /// The attributes of a drawing's title.
 pub const TITLE: &str = "font-size='15' font-weight='600'";
@@ -90,136 +90,105 @@ const DRUM_KEY: [Entry; 3] = [
 ];
 
 /// Draws a square of a colour.
-fn draw_square(text: &mut String, ink: Ink, x: u16, y: u16) -> Result<(), AllocError> {
-    write!(text, "<rect {ink} x='{x}' y='{y}' width='11' height='11'/>")
+fn draw_square(svg: &mut Svg, ink: Ink, x: u16, y: u16) {
+    draw!(svg: "<rect " ink " x='" x "' y='" y "' width='11' height='11'/>");
 }
 
 /// Draws colours with what they mean.
-fn draw_entries(text: &mut String, entries: &[Entry]) -> Result<(), AllocError> {
+fn draw_entries(svg: &mut Svg, entries: &[Entry]) {
     for entry in entries {
-        draw_square(text, entry.ink, entry.x, entry.y)?;
+        draw_square(svg, entry.ink, entry.x, entry.y);
         let (x, y) = (entry.x.saturating_add(18), entry.y.saturating_add(10));
         let name = entry.name;
-        write!(text, "<text x='{x}' y='{y}'>{name}</text>\n")?;
+        draw!(svg: "<text x='" x "' y='" y "'>" name "</text>\n");
     }
-    text.push_str("</g>\n")
+    draw!(svg: "</g>\n");
 }
 
-/// Writes what an analysis comes to.
-fn draw_bound(text: &mut String, bound: u128) -> Result<(), AllocError> {
-    write!(text, "<title>The worst walk: {bound} word times</title>\n")?;
-    write!(
-        text,
-        "<text font-size='27' font-weight='600' x='28' y='46'>bound {bound} word times</text>\n"
-    )
+/// Writes the title of the picture and its first line, here: how long the walk takes.
+fn draw_time(svg: &mut Svg, title: &str, name: &str, time: u128, base: u64) {
+    draw!(svg: "<title>" title ": " time " word times</title>\n");
+    draw!(svg: "<text font-size='27' font-weight='600' x='28' y='" base "'>");
+    draw!(svg: name " " time " word times</text>\n");
 }
 
-/// Writes what a walk in rounds takes, and the ceiling that it is beside.
-fn draw_reached(text: &mut String, reached: u128, ceiling: u128) -> Result<(), AllocError> {
-    write!(
-        text,
-        "<title>A walk in rounds: {reached} word times</title>\n"
-    )?;
-    write!(
-        text,
-        "<text font-size='27' font-weight='600' x='28' y='40'>reached {reached} word times</text>\n"
-    )?;
-    write!(
-        text,
-        "<text {TITLE} x='29' y='64'>ceiling {ceiling} word times</text>\n"
-    )
-}
-
-/// Writes how long a run is, and its verdict.
-fn draw_run(text: &mut String, time: u128, verdict: &Verdict) -> Result<(), AllocError> {
-    write!(text, "<title>A run: {time} word times</title>\n")?;
-    write!(
-        text,
-        "<text font-size='27' font-weight='600' x='28' y='40'>run {time} word times</text>\n"
-    )?;
-    write!(text, "<text {TITLE} x='29' y='64'>")?;
-    write_verdict(text, verdict)?;
-    text.push_str("</text>\n")
-}
-
-/// Begins the picture, with its heading.
-pub fn begin(text: &mut String, walk: Walk, layout: Layout) -> Result<(), AllocError> {
-    let (width, height) = (layout.width, layout.height);
-    text.push_str("<svg xmlns='http://www.w3.org/2000/svg' ")?;
-    write!(text, "viewBox='0 0 {width} {height}' ")?;
-    text.push_str(HEAD)?;
-    write!(
-        text,
-        "<rect class='page' fill='#ffffff' width='{width}' height='{height}'/>\n"
-    )?;
-    let base = match walk.kind {
+/// Writes how long the walk takes, and its ceiling or its verdict. The next line stands here.
+fn draw_heading(svg: &mut Svg, walk: Walk) -> u64 {
+    match walk.kind {
         Kind::Worst => {
-            draw_bound(text, walk.time)?;
-            70u64
+            draw_time(svg, "The worst walk", "bound", walk.time, 46);
+            70
         }
         Kind::InRounds(ceiling) => {
-            draw_reached(text, walk.time, ceiling)?;
+            draw_time(svg, "A walk in rounds", "reached", walk.time, 40);
+            draw!(svg: "<text " TITLE " x='29' y='64'>ceiling " ceiling " word times</text>\n");
             84
         }
         Kind::Run(verdict) => {
-            draw_run(text, walk.time, &verdict)?;
+            draw_time(svg, "A run", "run", walk.time, 40);
+            draw!(svg: "<text " TITLE " x='29' y='64'>");
+            write_verdict(svg, &verdict);
+            draw!(svg: "</text>\n");
             84
         }
-    };
-    let (faint, time, revolutions) = (Ink::Faint, walk.milliseconds(), walk.revolutions());
-    write!(
-        text,
-        "<text {faint} x='29' y='{base}'>{time} milliseconds at 96 "
-    )?;
-    write!(
-        text,
-        "microseconds a word time, {revolutions} revolutions of the drum</text>\n"
-    )
+    }
+}
+
+/// Begins the picture, with its heading.
+pub fn begin(svg: &mut Svg, walk: Walk, layout: Layout) {
+    let (width, height) = (layout.width, layout.height);
+    draw!(svg: "<svg xmlns='http://www.w3.org/2000/svg' ");
+    draw!(svg: "viewBox='0 0 " width " " height "' ");
+    draw!(svg: HEAD);
+    draw!(svg: "<rect class='page' fill='#ffffff' width='" width "' height='" height "'/>\n");
+    let base = draw_heading(svg, walk);
+    let (time, revolutions) = (walk.milliseconds(), walk.revolutions());
+    draw!(svg: "<text " (Ink::Faint) " x='29' y='" base "'>" time " milliseconds at 96 ");
+    draw!(svg: "microseconds a word time, " revolutions " revolutions of the drum</text>\n");
+}
+
+/// Ends the picture.
+pub fn end(svg: &mut Svg) {
+    draw!(svg: "</svg>\n");
 }
 
 /// Writes how many bands are drawn, and which are the outermost and the innermost.
-fn draw_bands(text: &mut String, count: usize, first: u16, last: u16) -> Result<(), AllocError> {
+fn draw_bands(svg: &mut Svg, count: usize, first: u16, last: u16) {
     let from = first.saturating_mul(50);
     let to = from.saturating_add(49);
     if count == 1 {
-        return write!(text, "One band: {from:04} to {to:04}");
+        return draw!(svg: "One band: " (four(from)) " to " (four(to)));
     }
-    write!(
-        text,
-        "A ring for each of {count} bands: {from:04} to {to:04} at the rim, "
-    )?;
+    draw!(svg: "A ring for each of " count " bands: " (four(from)) " to " (four(to)));
+    draw!(svg: " at the rim, ");
     let from = last.saturating_mul(50);
     let to = from.saturating_add(49);
-    write!(text, "{from:04} to {to:04} inside")
+    draw!(svg: (four(from)) " to " (four(to)) " inside");
 }
 
 /// Writes what the drawing of the drum shows.
-pub fn draw_drum_title(text: &mut String, rings: &[Ring], edges: usize) -> Result<(), AllocError> {
-    let faint = Ink::Faint;
-    write!(
-        text,
-        "<text {TITLE} x='28' y='112'>The drum, seen from its end</text>\n"
-    )?;
-    write!(text, "<text {faint} x='28' y='131'>")?;
+pub fn draw_drum_title(svg: &mut Svg, rings: &[Ring], edges: usize) {
+    draw!(svg: "<text " TITLE " x='28' y='112'>The drum, seen from its end</text>\n");
+    draw!(svg: "<text " (Ink::Faint) " x='28' y='131'>");
     if let (Some(first), Some(last)) = (rings.first(), rings.last()) {
-        draw_bands(text, rings.len(), first.band, last.band)?;
+        draw_bands(svg, rings.len(), first.band, last.band);
     }
-    text.push_str("</text>\n")?;
+    draw!(svg: "</text>\n");
     if edges > MOST_EDGES {
-        write!(text, "<text {faint} x='28' y='149'>")?;
-        write!(text, "The {MOST_EDGES} hops taken most of {edges}</text>\n")?;
+        draw!(svg: "<text " (Ink::Faint) " x='28' y='149'>");
+        draw!(svg: "The " MOST_EDGES " hops taken most of " edges "</text>\n");
     }
-    text.push_str("<g transform='translate(240 674)'>")?;
+    draw!(svg: "<g transform='translate(240 674)'>");
     for (x, shade) in [(0, 1), (11, 3), (22, 6)] {
-        draw_square(text, Ink::Shade(shade), x, 0)?;
+        draw_square(svg, Ink::Shade(shade), x, 0);
     }
-    text.push_str("<text x='40' y='10'>executed, stronger for more word times</text>\n")?;
-    draw_entries(text, &DRUM_KEY)
+    draw!(svg: "<text x='40' y='10'>executed, stronger for more word times</text>\n");
+    draw_entries(svg, &DRUM_KEY);
 }
 
 /// Writes what the colours of the rows mean, which begin here.
-pub fn draw_rows_key(text: &mut String, left: u64) -> Result<(), AllocError> {
-    write!(text, "<g transform='translate({left} 124)'>")?;
-    text.push_str("<rect x='1' width='2' height='11'/><text x='8' y='10'>found</text>\n")?;
-    draw_entries(text, &ROWS_KEY)
+pub fn draw_rows_key(svg: &mut Svg, left: u64) {
+    draw!(svg: "<g transform='translate(" left " 124)'>");
+    draw!(svg: "<rect x='1' width='2' height='11'/><text x='8' y='10'>found</text>\n");
+    draw_entries(svg, &ROWS_KEY);
 }

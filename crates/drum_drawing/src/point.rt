@@ -1,3 +1,5 @@
+use crate::svg::{Piece, Svg, draw};
+
 /// The direction of each angle of the drum, in thousandths: to the right, and down. Angle 0 is at
 /// the top, and the angles go round with the clock.
 const DIRECTIONS: [(i64, i64); 50] = [
@@ -84,6 +86,14 @@ impl Point {
         }
     }
 
+    /// The same, as far to the left.
+    pub fn mirrored(self) -> Point {
+        Point {
+            x: 0i64.saturating_sub(self.x),
+            y: self.y,
+        }
+    }
+
     /// Between two points, a little nearer to the centre than they are: a curve from one to the
     /// other that is drawn to it bends inward.
     pub fn inward(self, other: Point) -> Point {
@@ -91,5 +101,12 @@ impl Point {
             x: self.x.saturating_add(other.x).saturating_mul(4) / 10,
             y: self.y.saturating_add(other.y).saturating_mul(4) / 10,
         }
+    }
+}
+
+impl Piece for Point {
+    fn draw(self, svg: &mut Svg) {
+        let Point { x, y } = self;
+        draw!(svg: x " " y);
     }
 }

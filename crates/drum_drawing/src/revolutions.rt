@@ -5,80 +5,78 @@ use crate::ink::Ink;
 use crate::layout::Layout;
 use crate::page::TITLE;
 use crate::spans::{COLUMN, draw_hop, top_of};
-use drum_scene::{Above, Row, Scene};
-use std::alloc::AllocError;
+use crate::svg::{Svg, draw, two};
+use drum_scene::{Above, Extent, Row, Scene, Walk};
+
+/// Writes how much of the walk is shown.
+fn draw_extent(svg: &mut Svg, extent: Extent, walk: Walk) {
+    let all = walk.revolutions();
+    match extent {
+        Extent::All => draw!(svg: "all " all " revolutions"),
+        Extent::First(shown) => draw!(svg: "first " shown " of " all " revolutions"),
+        Extent::Again(first, from) => {
+            draw!(svg: "first " first ", then from " from ", of " all " revolutions");
+        }
+        Extent::Some(shown) => {
+            let last = walk.last_revolution();
+            draw!(svg: shown " of " last " revolutions");
+        }
+    }
+}
 
 /// Writes which part of the walk is shown.
-pub fn draw_revolutions_title(
-    text: &mut String,
-    scene: &Scene,
-    layout: Layout,
-) -> Result<(), AllocError> {
+pub fn draw_revolutions_title(svg: &mut Svg, scene: &Scene, layout: Layout) {
     let (left, name) = (layout.left, scene.walk.name());
     if scene.rows.hops.is_empty() {
-        return write!(
-            text,
-            "<text {TITLE} x='{left}' y='112'>{name} has no hop</text>\n"
-        );
+        return draw!(svg: "<text " TITLE " x='" left "' y='112'>" name " has no hop</text>\n");
     }
-    write!(text, "<text {TITLE} x='{left}' y='112'>{name}: ")?;
-    scene.extent.write(text, scene.walk)?;
-    text.push_str("</text>\n")
+    draw!(svg: "<text " TITLE " x='" left "' y='112'>" name ": ");
+    draw_extent(svg, scene.extent, scene.walk);
+    draw!(svg: "</text>\n");
 }
 
 /// Draws the angles above the rows.
-fn draw_angles(text: &mut String) -> Result<(), AllocError> {
+fn draw_angles(svg: &mut Svg) {
     for five in 0..10u64 {
-        let (faint, angle, x) = (Ink::Faint, five * 5, five * 5 * COLUMN);
-        write!(text, "<text {faint} x='{x}' y='-16'>{angle:02}</text>")?;
+        let (angle, x) = (five * 5, five * 5 * COLUMN);
+        draw!(svg: "<text " (Ink::Faint) " x='" x "' y='-16'>" (two(angle)) "</text>");
     }
-    text.push_str("\n")
+    draw!(svg: "\n");
 }
 
 /// Draws a line between a row with its upper side here and the one above it, where time doesn't
 /// just go on.
-fn draw_above(text: &mut String, above: Above, y: u64) -> Result<(), AllocError> {
+fn draw_above(svg: &mut Svg, above: Above, y: u64) {
     let ink = match above {
-        Above::Nothing => return Ok(()),
+        Above::Nothing => return,
         Above::Cards => Ink::Cards,
         Above::Jump => Ink::Rest,
     };
     let middle = y.saturating_sub(6);
-    write!(
-        text,
-        "<rect {ink} x='-4' y='{middle}' width='508' height='2'/>"
-    )
+    draw!(svg: "<rect " ink " x='-4' y='" middle "' width='508' height='2'/>");
 }
 
 /// Draws the rows without the walk, each with the number of its revolution, from 1.
-fn draw_rows(text: &mut String, rows: &[Row]) -> Result<(), AllocError> {
+fn draw_rows(svg: &mut Svg, rows: &[Row]) {
     for (place, row) in rows.iter().enumerate() {
         let y = top_of(place);
-        draw_above(text, row.above, y)?;
+        draw_above(svg, row.above, y);
         let (base, number) = (y.saturating_add(8), row.revolution.saturating_add(1));
-        let (empty, faint) = (Ink::Row, Ink::Faint);
-        write!(text, "<rect {empty} y='{y}' width='500' height='9'/>")?;
-        write!(
-            text,
-            "<text {faint} text-anchor='end' x='-8' y='{base}'>{number}</text>\n"
-        )?;
+        draw!(svg: "<rect " (Ink::Row) " y='" y "' width='500' height='9'/>");
+        draw!(svg: "<text " (Ink::Faint) " text-anchor='end' x='-8' y='" base "'>");
+        draw!(svg: number "</text>\n");
     }
-    Ok(())
 }
 
 /// Draws revolutions of the walk, one a row, each from angle 0.
-pub fn draw_revolutions(
-    text: &mut String,
-    scene: &Scene,
-    layout: Layout,
-) -> Result<(), AllocError> {
+pub fn draw_revolutions(svg: &mut Svg, scene: &Scene, layout: Layout) {
     let (left, rows) = (layout.left, &scene.rows);
-    write!(text, "<g class='rows' transform='translate({left} 174)'>\n")?;
-    draw_angles(text)?;
-    draw_rows(text, &rows.shown)?;
+    draw!(svg: "<g class='rows' transform='translate(" left " 174)'>\n");
+    draw_angles(svg);
+    draw_rows(svg, &rows.shown);
     for hop in rows.hops.iter() {
-        draw_hop(text, &rows.shown, hop)?;
+        draw_hop(svg, &rows.shown, hop);
     }
-    draw_braces(text, &scene.braces)?;
-    text.push_str("</g>\n")
+    draw_braces(svg, &scene.braces);
+    draw!(svg: "</g>\n");
 }

@@ -1,9 +1,9 @@
 //! The parts of a hop, each a span of a row.
 
 use crate::ink::Ink;
+use crate::svg::{Svg, draw, four, two};
 use drum_scene::{DrawnHop, Parts, Row, next_found};
 use drum_walks::Visit;
-use std::alloc::AllocError;
 
 /// How wide a word time is, in pixels.
 pub const COLUMN: u64 = 10;
@@ -28,46 +28,32 @@ fn column_of(row: Row, moment: u128) -> u64 {
 }
 
 /// Draws the time from one clock of a hop to another, in each of its rows.
-fn draw_span(
-    text: &mut String,
-    rows: &[Row],
-    hop: &DrawnHop,
-    ink: Ink,
-    span: (u64, u64),
-) -> Result<(), AllocError> {
+fn draw_span(svg: &mut Svg, rows: &[Row], hop: &DrawnHop, ink: Ink, span: (u64, u64)) {
     let (from, to) = (hop.moment(span.0), hop.moment(span.1));
     for (place, row) in rows.iter().enumerate() {
         let (left, right) = (column_of(*row, from), column_of(*row, to));
         if left < right {
             let (x, y) = (left.saturating_mul(COLUMN), top_of(place));
             let width = right.saturating_sub(left).saturating_mul(COLUMN);
-            write!(text, "<path {ink} d='M{x} {y}h{width}v9h-{width}z'/>")?;
+            draw!(svg: "<path " ink " d='M" x " " y "h" width "v9h-" width "z'/>");
         }
     }
-    Ok(())
 }
 
 /// Writes the location and the operation of a hop where `room` word times leave room for both;
 /// where they don't, the location alone, or nothing.
-fn draw_label(
-    text: &mut String,
-    visit: &Visit,
-    x: u64,
-    base: u64,
-    room: u64,
-) -> Result<(), AllocError> {
+fn draw_label(svg: &mut Svg, visit: &Visit, x: u64, base: u64, room: u64) {
     let (number, op) = (visit.place.number(), visit.instruction.op());
     if room >= LONG_LABEL {
-        write!(text, "<text x='{x}' y='{base}'>{number:04} {op:02}</text>")?;
+        draw!(svg: "<text x='" x "' y='" base "'>" (four(number)) " " (two(op)) "</text>");
     } else if room >= LABEL {
-        write!(text, "<text x='{x}' y='{base}'>{number:04}</text>")?;
+        draw!(svg: "<text x='" x "' y='" base "'>" (four(number)) "</text>");
     }
-    Ok(())
 }
 
 /// Draws a stroke where the instruction of a hop is found, with its label where there is room
 /// before the next is found.
-fn draw_stroke(text: &mut String, rows: &[Row], hop: &DrawnHop) -> Result<(), AllocError> {
+fn draw_stroke(svg: &mut Svg, rows: &[Row], hop: &DrawnHop) {
     let found = hop.parts.found;
     let angle = found % 50;
     let next = next_found(&hop.visit, hop.parts);
@@ -77,40 +63,36 @@ fn draw_stroke(text: &mut String, rows: &[Row], hop: &DrawnHop) -> Result<(), Al
         if row.revolution == revolution {
             let (x, y) = (angle * COLUMN, top_of(place));
             let base = y.saturating_sub(2);
-            write!(text, "<path d='M{x} {y}h2v9h-2z'/>")?;
-            draw_label(text, &hop.visit, x, base, room)?;
+            draw!(svg: "<path d='M" x " " y "h2v9h-2z'/>");
+            draw_label(svg, &hop.visit, x, base, room);
         }
     }
-    Ok(())
 }
 
 /// Writes what a hop is, shown where it is pointed at.
-fn draw_hop_title(text: &mut String, visit: &Visit, parts: Parts) -> Result<(), AllocError> {
+fn draw_hop_title(svg: &mut Svg, visit: &Visit, parts: Parts) {
     let number = visit.place.number();
     let seek = parts.found.saturating_sub(parts.begun);
     let data = parts.reached.saturating_sub(parts.ready);
     let time = parts.ended.saturating_sub(parts.begun);
     let op = visit.instruction.op();
-    write!(text, "<title>{number:04} {op:02}: {time} word times")?;
+    draw!(svg: "<title>" (four(number)) " " (two(op)) ": " time " word times");
     if seek > 0 || data > 0 {
-        write!(
-            text,
-            ", waiting {seek} for the instruction, {data} for data"
-        )?;
+        draw!(svg: ", waiting " seek " for the instruction, " data " for data");
     }
-    text.push_str("</title>")
+    draw!(svg: "</title>");
 }
 
 /// Draws a hop: its parts, and the stroke.
-pub fn draw_hop(text: &mut String, rows: &[Row], hop: &DrawnHop) -> Result<(), AllocError> {
+pub fn draw_hop(svg: &mut Svg, rows: &[Row], hop: &DrawnHop) {
     let parts = hop.parts;
-    text.push_str("<g>")?;
-    draw_hop_title(text, &hop.visit, parts)?;
-    draw_span(text, rows, hop, Ink::Seek, (parts.begun, parts.found))?;
+    draw!(svg: "<g>");
+    draw_hop_title(svg, &hop.visit, parts);
+    draw_span(svg, rows, hop, Ink::Seek, (parts.begun, parts.found));
     // the wait for data is drawn over it
-    draw_span(text, rows, hop, Ink::Work, (parts.found, parts.worked))?;
-    draw_span(text, rows, hop, Ink::Data, (parts.ready, parts.reached))?;
-    draw_span(text, rows, hop, Ink::Cards, (parts.worked, parts.ended))?;
-    draw_stroke(text, rows, hop)?;
-    text.push_str("</g>\n")
+    draw_span(svg, rows, hop, Ink::Work, (parts.found, parts.worked));
+    draw_span(svg, rows, hop, Ink::Data, (parts.ready, parts.reached));
+    draw_span(svg, rows, hop, Ink::Cards, (parts.worked, parts.ended));
+    draw_stroke(svg, rows, hop);
+    draw!(svg: "</g>\n");
 }

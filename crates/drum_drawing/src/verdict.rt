@@ -1,8 +1,8 @@
 //! The verdict on a run, in a few words.
 
+use crate::svg::{Svg, draw, four, ten};
 use drum_core::{Location, Word};
 use drum_machine::{Left, Verdict, Why};
-use std::alloc::AllocError;
 
 /// Why a run stops.
 fn reason_of(why: Why) -> &'static str {
@@ -19,52 +19,49 @@ fn reason_of(why: Why) -> &'static str {
 }
 
 /// Writes which word at which location is on no list.
-fn write_unlisted(text: &mut String, at: Location, word: Word) -> Result<(), AllocError> {
+fn write_unlisted(svg: &mut Svg, at: Location, word: Word) {
     let (number, digits) = (at.number(), word.digits());
-    let sign = if word.minus() { '-' } else { '+' };
-    write!(text, "{sign}{digits:010} at {number:04} isn't listed")
+    let sign = if word.minus() { "-" } else { "+" };
+    draw!(svg: sign (ten(digits)) " at " (four(number)) " isn't listed");
 }
 
 /// Writes in which way a run leaves the notes.
-fn write_way(text: &mut String, what: Left) -> Result<(), AllocError> {
+fn write_way(svg: &mut Svg, what: Left) {
     match what {
-        Left::Unlisted(at, word) => write_unlisted(text, at, word),
+        Left::Unlisted(at, word) => write_unlisted(svg, at, word),
         Left::TooOften(from, onto) => {
             let (from, onto) = (from.number(), onto.number());
-            write!(text, "{from:04} to {onto:04} too often")
+            draw!(svg: (four(from)) " to " (four(onto)) " too often");
         }
-        Left::Switch => text.push_str("the programmed switch"),
-        Left::LoadCard => text.push_str("a load card"),
+        Left::Switch => draw!(svg: "the programmed switch"),
+        Left::LoadCard => draw!(svg: "a load card"),
         Left::NotBack(exit, onto) => {
             let (exit, onto) = (exit.number(), onto.number());
-            write!(text, "{exit:04} to {onto:04} isn't the way back")
+            draw!(svg: (four(exit)) " to " (four(onto)) " isn't the way back");
         }
     }
 }
 
 /// Writes that a run keeps to the notes until it stops.
-fn write_kept(text: &mut String, bound: u64, why: Why) -> Result<(), AllocError> {
+fn write_kept(svg: &mut Svg, bound: u64, why: Why) {
     let reason = reason_of(why);
-    write!(
-        text,
-        "kept to the notes until it stopped ({reason}); bound {bound} word times"
-    )
+    draw!(svg: "kept to the notes until it stopped (" reason "); bound " bound " word times");
 }
 
 /// Writes that a run leaves the notes with a step, which begins when so many word times are used.
-fn write_left(text: &mut String, what: Left, step: u64, used: u64) -> Result<(), AllocError> {
+fn write_left(svg: &mut Svg, what: Left, step: u64, used: u64) {
     if step == 0 {
-        text.push_str("left the notes before any step: ")?;
+        draw!(svg: "left the notes before any step: ");
     } else {
-        write!(text, "left the notes with step {step}, begun at {used}: ")?;
+        draw!(svg: "left the notes with step " step ", begun at " used ": ");
     }
-    write_way(text, what)
+    write_way(svg, what);
 }
 
 /// Writes a verdict.
-pub fn write_verdict(text: &mut String, verdict: &Verdict) -> Result<(), AllocError> {
+pub fn write_verdict(svg: &mut Svg, verdict: &Verdict) {
     match *verdict {
-        Verdict::Kept { bound, why, .. } => write_kept(text, bound, why),
-        Verdict::Left { what, step, used } => write_left(text, what, step, used),
+        Verdict::Kept { bound, why, .. } => write_kept(svg, bound, why),
+        Verdict::Left { what, step, used } => write_left(svg, what, step, used),
     }
 }

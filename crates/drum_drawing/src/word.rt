@@ -1,7 +1,7 @@
 use crate::ink::Ink;
 use crate::scale::scaled;
+use crate::svg::{Svg, draw, four, two};
 use drum_scene::{Operations, Tallies, Tally, Walk};
-use std::alloc::AllocError;
 
 /// From this shade on a word is so dark that its location is written in white.
 const DARK: u64 = 5;
@@ -67,30 +67,30 @@ impl Word {
     }
 
     /// Ends the element of the word, of which the shape is written: its colour, and its title.
-    pub fn finish(self, text: &mut String, walk: Walk) -> Result<(), AllocError> {
+    pub fn finish(self, svg: &mut Svg, walk: Walk) {
         let (ink, number) = (self.ink(), self.number);
         let (visits, time, data) = (self.tally.visits, self.tally.time, self.tally.data);
-        write!(text, " {ink}><title>{number:04}")?;
+        draw!(svg: " " ink "><title>" (four(number)));
         if let (Operations::One(op), true) = (self.tally.operations, self.tally.executed) {
-            write!(text, " {op:02}")?;
+            draw!(svg: " " (two(op)));
         }
-        text.push_str(": ")?;
+        draw!(svg: ": ");
         match ink {
-            Ink::Other => text.push_str("executed by other walks")?,
+            Ink::Other => draw!(svg: "executed by other walks"),
             Ink::Place => {
                 let more = plural(data);
-                write!(text, "data, sought {data} time{more}")?;
+                draw!(svg: "data, sought " data " time" more);
             }
             Ink::Rest => {
                 let noun = walk.noun();
-                write!(text, "not sought by this {noun}")?;
+                draw!(svg: "not sought by this " noun);
             }
             _ => {
                 let (more_visits, more_time) = (plural(visits), plural(time));
-                write!(text, "{visits} visit{more_visits}, ")?;
-                write!(text, "{time} word time{more_time}")?;
+                draw!(svg: visits " visit" more_visits ", ");
+                draw!(svg: time " word time" more_time);
             }
         }
-        text.push_str("</title></use>\n")
+        draw!(svg: "</title></use>\n");
     }
 }

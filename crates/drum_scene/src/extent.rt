@@ -1,7 +1,6 @@
 //! How much of the walk is drawn.
 
 use crate::walk::Walk;
-use std::alloc::AllocError;
 
 /// How much of the walk is drawn.
 #[derive(Clone, Copy)]
@@ -24,23 +23,6 @@ impl Extent {
             Extent::All
         } else {
             Extent::First(shown)
-        }
-    }
-
-    /// Writes how much of the walk that is.
-    pub fn write(self, text: &mut String, walk: Walk) -> Result<(), AllocError> {
-        let all = walk.revolutions();
-        match self {
-            Extent::All => write!(text, "all {all} revolutions"),
-            Extent::First(shown) => write!(text, "first {shown} of {all} revolutions"),
-            Extent::Again(first, from) => write!(
-                text,
-                "first {first}, then from {from}, of {all} revolutions"
-            ),
-            Extent::Some(shown) => {
-                let last = walk.last_revolution();
-                write!(text, "{shown} of {last} revolutions")
-            }
         }
     }
 }
