@@ -1,14 +1,8 @@
 -- The lines of a coverage.
-use Rattle.std.proofs.Common.{◌≡◌, ℕ, ◌+◌, ◌<◌, ◌≤◌, List, [], ◌∷◌, ◌++◌, length, get_or, map, ap, sym, ◌∙◌, arith}
-use Rattle.std.proofs.Common.{suc, Bool, refl, subst, flat_map, take}
-use Rattle.std.proofs.lemmas.List.{take_all}
-use Rattle.std.proofs.lemmas.List.FromFn.{get_or-enumerate_from, length-enumerate_from}
+use Rattle.std.proofs.Common.{◌≡◌, ℕ, ◌+◌, ◌<◌, List, ◌∷◌, ◌++◌, length, get_or, map, ap, sym, ◌∙◌, arith, []}
+use Rattle.std.proofs.Common.{suc, Bool, refl, subst, flat_map}
 use Rattle.std.specs.Prelude.{count_by}
 use Rattle.std.specs.List.{enumerate_from}
-use Rattle.drum_devices.specs.Device.{Device}
-use Rattle.drum_sheet.specs.declared.sheet.Sheet.{Sheet}
-use Rattle.drum_sheet.specs.Stands.{Passes}
-use Rattle.drum_sheet.proofs.Passing.{passes_as, passes_more}
 use Rattle.drum_times.specs.declared.notes.listing.Listing.{Listing}
 use Rattle.drum_times.specs.declared.notes.mark.Mark.{Mark}
 use Rattle.drum_times.specs.declared.notes.pattern.Pattern.{Pattern}
@@ -20,30 +14,6 @@ use Rattle.drum_replay.specs.Coverage.{is_met, list_line, mark_line, mark_line_a
 use Rattle.drum_replay.specs.CoverageOf.{HasSeen, flags_of, list_line_at, met_at, passed_at}
 use Rattle.drum_replay.proofs.Flags.{count_set, map_at}
 use Rattle.drum_replay.proofs.Seen.{row, rows_listed}
-
--- ---- lines of things with their places
-
--- one more line
-pub numbered_more : {X : Type 0} (line : ℕ × X → List ℕ) (xs : List X) (place : ℕ) (x : X)
-    {before between after : Device} {sheet sheet' sheet″ : Sheet} → place < length xs → x ≡ get_or xs place x
-    → Passes before sheet between sheet' (flat_map line (take place (enumerate_from 0 xs)))
-    → Passes between sheet' after sheet″ (line (place, x))
-    → Passes before sheet after sheet″ (flat_map line (take (place + 1) (enumerate_from 0 xs)))
-numbered_more {X} line xs place x inside is p q =
-    let numbered : 0 + place ≡ place = omega arith in
-    passes_more line (enumerate_from 0 xs) place (place, x)
-    (omega (arith, inside, length-enumerate_from 0 xs))
-    (sym (get_or-enumerate_from 0 xs place (place, x) inside
-    ∙ ap (λ (n : ℕ). (n, get_or xs place x)) numbered ∙ ap (λ (y : X). (place, y)) (sym is))) p q
-
--- the last was put
-pub numbered_last : {X : Type 0} (line : ℕ × X → List ℕ) (xs : List X) (place : ℕ) {before after : Device}
-    {sheet sheet' : Sheet} → length xs ≤ place
-    → Passes before sheet after sheet' (flat_map line (take place (enumerate_from 0 xs)))
-    → Passes before sheet after sheet' (flat_map line (enumerate_from 0 xs))
-numbered_last line xs place past =
-    passes_as (ap (flat_map line) (take_all place (enumerate_from 0 xs)
-    (omega (arith, past, length-enumerate_from 0 xs))))
 
 -- ---- the lines are those of the strides that were seen
 

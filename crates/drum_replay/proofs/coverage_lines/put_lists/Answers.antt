@@ -3,7 +3,7 @@ use Rattle.drum_times.specs.Listed.{listed}
 use Rattle.drum_sheet.proofs.Passing.{passes_as}
 use Rattle.drum_replay.specs.Coverage.{list_line}
 use Rattle.drum_replay.specs.CoverageOf.{list_line_at}
-use Rattle.drum_replay.proofs.LineTexts.{numbered_last, numbered_more}
+use Rattle.drum_sheet.proofs.Lines.{numbered_last, numbered_more}
 use Rattle.drum_replay.proofs.coverage_lines.put_lists.Goals as goal
 
 pub loop-place-preserved : goal.loop-place-preserved

@@ -2,7 +2,7 @@ use Rattle.std.proofs.Common.{ap}
 use Rattle.drum_sheet.proofs.Passing.{passes_as}
 use Rattle.drum_replay.specs.Coverage.{mark_line, mark_line_at}
 use Rattle.drum_replay.specs.CoverageOf.{passed_at}
-use Rattle.drum_replay.proofs.LineTexts.{numbered_last, numbered_more}
+use Rattle.drum_sheet.proofs.Lines.{numbered_last, numbered_more}
 use Rattle.drum_replay.proofs.coverage_lines.put_marks.Goals as goal
 
 pub loop-place-preserved : goal.loop-place-preserved

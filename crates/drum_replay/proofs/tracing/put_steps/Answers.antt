@@ -1,39 +1,51 @@
 -- Of put_steps: what was put are the lines of the strides so far, which keep to the notes. Each step
 -- that goes on uses some time, and the limit bounds it, so the loop ends.
-use Rattle.std.proofs.Common.{◌≡◌, ℕ, ◌+◌, List, [], ◌∷◌, ◌++◌, length, refl, ap, sym, subst, ◌∙◌, arith, Bool, Option}
+use Rattle.std.proofs.Common.{◌≡◌, ℕ, ◌+◌, List, ◌∷◌, ◌++◌, length, refl, ap, sym, subst, ◌∙◌, arith, Option, []}
 use Rattle.std.specs.Prelude.{MatchOption}
-use Rattle.drum_core.specs.declared.op.Op.{Op}
 use Rattle.drum_deck.specs.InDeck.{loads_in}
 use Rattle.drum_devices.specs.Device.{Device}
-use Rattle.drum_times.specs.declared.entry.Entry.{Entry}
-use Rattle.drum_times.specs.declared.notes.pattern.Pattern.{Pattern}
-use Rattle.drum_times.specs.Allowed.{Listed}
 use Rattle.drum_machine.specs.Counts.{AreWithin, no_counts}
 use Rattle.drum_machine.specs.Run.{Stride}
+use Rattle.drum_machine.specs.Step.{State, contents_after}
 use Rattle.drum_machine.specs.declared.verdict.Verdict.{Verdict}
 use Rattle.drum_emulator.specs.Feed.{cards_left}
+use Rattle.drum_emulator.specs.Machine.{IsToldOf, held_by}
+use Rattle.drum_emulator.specs.declared.step.Step.{Step}
 use Rattle.drum_monitor.proofs.Watching.{kept_within, zeros_within}
 use Rattle.drum_flow.specs.SettingOf.{setting}
+use Rattle.drum_flow.specs.Walk.{Setting}
 use Rattle.drum_sheet.specs.declared.sheet.Sheet.{Sheet}
 use Rattle.drum_sheet.specs.Stands.{Passes}
-use Rattle.drum_sheet.proofs.Passing.{◌⊳◌, passes_as, passes_none}
+use Rattle.drum_sheet.proofs.Passing.{◌⊳◌, passes_as}
 use Rattle.drum_hop_lines.specs.StepOf.{IsStepOf}
 use Rattle.drum_hop_lines.specs.TraceText.{stride_line, stride_lines}
-use Rattle.drum_replay.specs.Coverage.{is_met}
-use Rattle.drum_replay.specs.Following.{IsFollowed, IsFollowing, state_of, stride_of, waits_of}
+use Rattle.drum_replay.specs.Following.{IsFollowed, IsFollowing, state_of, stride_of, used_so_far, waits_of}
+use Rattle.drum_replay.specs.declared.following.Following.{Following}
 use Rattle.drum_replay.proofs.Followed.{as_declared}
 use Rattle.drum_replay.proofs.Traced.{lead_start, lines_more}
 use Rattle.drum_replay.proofs.tracing.put_steps.Goals as goal
 
--- the line of a stride more stands behind those that were put
-behind : (times : Op → Entry) (strides : List Stride) (stride : Stride) (number : ℕ) {before between after : Device}
-    {sheet sheet' sheet″ : Sheet} → number ≡ 1 + length strides
-    → Passes before sheet between sheet' (stride_lines times 1 strides)
-    → Passes between sheet' after sheet″ (stride_line times number stride)
-    → Passes before sheet after sheet″ (stride_lines times 1 (strides ++ stride ∷ []))
-behind times strides stride number is p q =
-    passes_as (ap (λ (n : ℕ). stride_lines times 1 strides ++ stride_line times n stride) is
-    ∙ sym (lines_more times 1 strides stride)) (p ⊳ q)
+-- the line of one step more stands behind those that were put
+behind : (g : Setting) (s : State) (waits : List ℕ) (most angle used : ℕ) (strides : List Stride) (before next : Following)
+    (step : Step) {from between to : Device} {sheet sheet' sheet″ : Sheet}
+    → IsFollowing g s waits most strides before → s.first_angle ≡ angle → used ≡ used_so_far before
+    → IsToldOf g.times (stride_of g.times before) step
+    → held_by next.machine (cards_left next.feed) ≡ contents_after (stride_of g.times before).outcome
+    → next.steps ≡ before.steps + 1 → Passes from sheet between sheet' (stride_lines g.times 1 strides)
+    → ((stride : Stride) → IsStepOf g.times angle used step next.machine stride
+    → Passes between sheet' to sheet″ (stride_line g.times next.steps stride))
+    → Passes from sheet to sheet″ (stride_lines g.times 1 (strides ++ stride_of g.times before ∷ []))
+behind g s waits most angle used strides before next step so_far start time told held steps passes put =
+    let stride = stride_of g.times before in
+    let number : next.steps ≡ 1 + length strides = omega (arith, steps, so_far.counted) in
+    passes_as (ap (λ (n : ℕ). stride_lines g.times 1 strides ++ stride_line g.times n stride) number
+    ∙ sym (lines_more g.times 1 strides stride)) (passes ⊳ put stride record {
+      told = told;
+      start = lead_start g.times s waits strides (state_of before) (waits_of before) so_far.lead ∙ start;
+      time = sym time;
+      cards = cards_left next.feed;
+      held = held;
+    })
 
 pub see-requires-clause-within : goal.see-requires-clause-within
 see-requires-clause-within g c =
@@ -43,19 +55,6 @@ see-requires-clause-within g c =
     subst (AreWithin marks) (sym c.loop-verdict.invariant.seen.counts)
     (kept_within (loads_in c.args.deck.now) notes (no_counts marks) c.loop-verdict.invariant.strides so_far.seen.kept
     (zeros_within marks))
-
-pub see-requires-clause-flags : goal.see-requires-clause-flags
-see-requires-clause-flags g c =
-    let flag : Listed → Pattern → Bool = λ list pattern. is_met c.loop-verdict.invariant.strides list.location pattern in
-    (flag, c.loop-verdict.invariant.seen.met)
-
-pub loop-verdict-init : goal.loop-verdict-init
-loop-verdict-init g c = record {
-  strides = [];
-  so_far = c.requires.follows;
-  seen = c.requires.fresh;
-  passes = passes_none (g.O.Output.device c.args.out.now) c.args.sheet.now;
-}
 
 pub returns-in-Some-clause-passes : goal.returns-in-Some-clause-passes
 returns-in-Some-clause-passes g c =
@@ -67,21 +66,15 @@ returns-in-Some-clause-passes g c =
     let before = c.loop-verdict.following in
     let stride = stride_of all.times before in
     let more = strides ++ stride ∷ [] in
-    let is : IsStepOf all.times c.args.angle c.used-before.result c.advance-step.result.0
-    c.advance-step.new.self.machine stride = record {
-      told = c.advance-step.ensures.told so_far.goes;
-      start = lead_start all.times s waits strides (state_of before) (waits_of before) so_far.lead ∙ c.requires.angle;
-      time = sym c.used-before.ensures;
-      cards = cards_left c.advance-step.new.self.feed;
-      held = c.advance-step.ensures.held so_far.goes;
-    } in (
+    let lines = behind all s waits c.args.most c.args.angle c.used-before.result strides before
+    c.advance-step.new.self c.advance-step.result.0 so_far c.requires.angle c.used-before.ensures
+    (c.advance-step.ensures.told so_far.goes) (c.advance-step.ensures.held so_far.goes) c.advance-step.ensures.steps
+    c.loop-verdict.invariant.passes c.put_step.ensures in (
       more,
       subst (λ (o : Option Verdict). MatchOption o (IsFollowing all s waits c.args.most more c.advance-step.new.self)
           (IsFollowed all s waits c.args.most more))
           c.in-Some.is (c.advance-step.ensures.advanced s waits strides c.requires.begins c.requires.bounded so_far),
-      behind all.times strides stride c.advance-step.new.self.steps
-          (omega (arith, c.advance-step.ensures.steps, so_far.counted)) c.loop-verdict.invariant.passes
-          (c.put_step.ensures stride is),
+      lines,
       c.see.ensures all.times strides stride c.loop-verdict.invariant.seen
           (c.advance-step.ensures.told so_far.goes),
     )
@@ -96,14 +89,10 @@ returns-then-is_lost-clause-passes g c =
     let before = c.loop-verdict.following in
     let stride = stride_of all.times before in
     let more = strides ++ stride ∷ [] in
-    let is : IsStepOf all.times c.args.angle c.used-before.result c.advance-step.result.0
-    c.advance-step.new.self.machine stride = record {
-      told = c.advance-step.ensures.told so_far.goes;
-      start = lead_start all.times s waits strides (state_of before) (waits_of before) so_far.lead ∙ c.requires.angle;
-      time = sym c.used-before.ensures;
-      cards = cards_left c.advance-step.new.self.feed;
-      held = c.advance-step.ensures.held so_far.goes;
-    } in (
+    let lines = behind all s waits c.args.most c.args.angle c.used-before.result strides before
+    c.advance-step.new.self c.advance-step.result.0 so_far c.requires.angle c.used-before.ensures
+    (c.advance-step.ensures.told so_far.goes) (c.advance-step.ensures.held so_far.goes) c.advance-step.ensures.steps
+    c.loop-verdict.invariant.passes c.put_step.ensures in (
       more,
       (
         strides,
@@ -116,9 +105,7 @@ returns-then-is_lost-clause-passes g c =
           back = so_far.seen.back;
         },
       ),
-      behind all.times strides stride c.advance-step.new.self.steps
-          (omega (arith, c.advance-step.ensures.steps, so_far.counted)) c.loop-verdict.invariant.passes
-          (c.put_step.ensures stride is),
+      lines,
       tt,
     )
 
@@ -132,14 +119,10 @@ loop-verdict-preserved g c =
     let before = c.loop-verdict.following in
     let stride = stride_of all.times before in
     let more = strides ++ stride ∷ [] in
-    let is : IsStepOf all.times c.args.angle c.used-before.result c.advance-step.result.0
-    c.advance-step.new.self.machine stride = record {
-      told = c.advance-step.ensures.told so_far.goes;
-      start = lead_start all.times s waits strides (state_of before) (waits_of before) so_far.lead ∙ c.requires.angle;
-      time = sym c.used-before.ensures;
-      cards = cards_left c.advance-step.new.self.feed;
-      held = c.advance-step.ensures.held so_far.goes;
-    } in
+    let lines = behind all s waits c.args.most c.args.angle c.used-before.result strides before
+    c.advance-step.new.self c.advance-step.result.0 so_far c.requires.angle c.used-before.ensures
+    (c.advance-step.ensures.told so_far.goes) (c.advance-step.ensures.held so_far.goes) c.advance-step.ensures.steps
+    c.loop-verdict.invariant.passes c.put_step.ensures in
     record {
       strides = more;
       so_far =
@@ -150,8 +133,5 @@ loop-verdict-preserved g c =
       seen =
           c.see.ensures all.times strides stride c.loop-verdict.invariant.seen
           (c.advance-step.ensures.told so_far.goes);
-      passes =
-          behind all.times strides stride c.advance-step.new.self.steps
-          (omega (arith, c.advance-step.ensures.steps, so_far.counted)) c.loop-verdict.invariant.passes
-          (c.put_step.ensures stride is);
+      passes = lines;
     }
