@@ -1,13 +1,10 @@
 -- How far before its end a list has a member: in an order in which every edge goes on, one leads lower.
-use Rattle.std.proofs.Common.{◌≡◌, ◌≢◌, ℕ, suc, ◌<◌, ◌≤◌, Bool, true, false, List, [], ◌∷◌, length}
-use Rattle.std.proofs.Common.{Option, refl, ap, sym, ◌∙◌, subst, inl, inr, ◌⊎◌, arith, eqb}
+use Rattle.std.proofs.Common.{◌≡◌, ◌≢◌, ℕ, suc, ◌<◌, ◌≤◌, Bool, true, false, List, ◌∷◌, length, []}
+use Rattle.std.proofs.Common.{refl, ap, sym, ◌∙◌, subst, inl, inr, ◌⊎◌, arith, eqb}
 use Rattle.std.specs.Prelude.{Contains, Decides}
 use Rattle.std.proofs.lemmas.Bool.Decides.{Decides-eqb}
-use Rattle.drum_core.specs.declared.word.Word.{Word}
-use Rattle.drum_times.specs.Allowed.{Notes}
 use Rattle.drum_order.specs.Graph.{height, height_by, height_of, AreDifferent, GoOn, IsClosed, LeadRound}
 use Rattle.drum_order.proofs.Lists.{contains_there, contains_cases, contains_none}
-use Rattle.drum_flow.specs.Accepted.{IsFree}
 
 module _ {X : Type 0} (same : X → X → Bool) (law : (a b : X) → Decides (same a b) (a ≡ b)) where
   -- what the test says of two
@@ -78,11 +75,3 @@ height_here = height_of_here eqb Decides-eqb
 
 pub height_there : (a x : ℕ) (xs : List ℕ) → a ≢ x → height (a ∷ xs) x ≡ height xs x
 height_there = height_of_there eqb Decides-eqb
-
-pub height_low : (xs : List ℕ) (x : ℕ) → height xs x ≤ length xs
-height_low = height_of_low eqb Decides-eqb
-
-pub lower : (loads : ℕ → Option Word) (notes : Notes) (xs : List ℕ) (u v : ℕ) → AreDifferent xs
-    → GoOn (IsFree loads notes) xs → Contains xs u
-    → IsFree loads notes u v → Contains xs v × (height xs v < height xs u)
-lower loads notes = lower_of eqb Decides-eqb (IsFree loads notes)

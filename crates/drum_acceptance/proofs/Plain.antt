@@ -1,12 +1,12 @@
 -- Nodes of notes without calls: nothing is open at them, so they are their locations.
-use Rattle.std.proofs.Common.{◌≡◌, ℕ, List, [], ◌∷◌, map, Option, refl, ap, sym, ◌∙◌, subst, inl, inr}
+use Rattle.std.proofs.Common.{◌≡◌, ℕ, List, ◌∷◌, map, Option, ap, sym, ◌∙◌, subst, []}
 use Rattle.std.specs.Prelude.{Contains}
 use Rattle.drum_core.specs.declared.word.Word.{Word}
 use Rattle.drum_times.specs.declared.notes.call.Call.{Call}
 use Rattle.drum_times.specs.Allowed.{Notes}
 use Rattle.drum_machine.specs.Calls.{none_open, open_after, MayGo}
-use Rattle.drum_order.specs.Graph.{AreDifferent, GoOn, IsClosed, LeadRound}
-use Rattle.drum_order.proofs.Lists.{contains_here, contains_there, contains_cases, contains_none}
+use Rattle.drum_order.specs.Graph.{AreDifferent, GoOn}
+use Rattle.drum_order.proofs.Lists.{contains_here, contains_there}
 use Rattle.drum_flow.specs.Accepted.{IsFree, IsFreeLink}
 use Rattle.drum_flow.specs.Executed.{AreAllNodes}
 use Rattle.drum_flow.specs.Flow.{AreFound}
@@ -21,39 +21,7 @@ plain place = record { place = place; ways = [] }
 abbrev pub plains : List ℕ → List Node
 plains places = map plain places
 
-pub plain_member : (places : List ℕ) (node : Node) → Contains (plains places) node
-    → (place : ℕ) × Contains places place × (plain place ≡ node)
-plain_member [] node there = absurd (contains_none node there)
-plain_member (place ∷ places) node there = elim (contains_cases (plain place) node (plains places) there) [
-  | inl same ↦ (place, contains_here place places, same)
-  | inr behind ↦ (let found = plain_member places node behind in
-      (found.0, contains_there place found.0 places found.1, found.2))
-]
-
-pub plains_different : (places : List ℕ) → AreDifferent places → AreDifferent (plains places)
-plains_different [] different = tt
-plains_different (place ∷ places) different = (
-  λ there.
-      let found = plain_member places (plain place) there in
-      different.0 (subst (λ (p : ℕ). Contains places p) (ap (λ (n : Node). n.place) found.2) found.1),
-  plains_different places different.1,
-)
-
-pub places_plain : (places : List ℕ) → map (λ (node : Node). node.place) (plains places) ≡ places
-places_plain [] = refl
-places_plain (place ∷ places) = ap (λ (ps : List ℕ). place ∷ ps) (places_plain places)
-
 module _ (loads : ℕ → Option Word) (notes : Notes) where
-  -- whatever is open, edges of nodes are edges of their locations
-  pub free_places : (node next : Node) → IsFreeLink loads notes node next → IsFree loads notes node.place next.place
-  free_places node next free = (free.0.edge, free.1)
-
-  pub round_places : (first node : Node) (nodes : List Node) → LeadRound (IsFreeLink loads notes) first node nodes
-      → LeadRound (IsFree loads notes) first.place node.place (map (λ (one : Node). one.place) nodes)
-  round_places first node [] round = free_places node first round
-  round_places first node (next ∷ nodes) round =
-      (free_places node next round.0, round_places first next nodes round.1)
-
   module _ (none : notes.calls ≡ []) where
     pub plain_link : (place next : ℕ) → IsEdge loads notes place next → IsLink loads notes (plain place) (plain next)
     plain_link place next edge = record {
@@ -88,16 +56,6 @@ module _ (loads : ℕ → Option Word) (notes : Notes) where
 
     pub plain_free : (place next : ℕ) → IsFree loads notes place next → IsFreeLink loads notes (plain place) (plain next)
     plain_free place next free = (plain_link place next free.0, free.1)
-
-    pub plain_round : (first place : ℕ) (places : List ℕ) → LeadRound (IsFree loads notes) first place places
-        → LeadRound (IsFreeLink loads notes) (plain first) (plain place) (plains places)
-    plain_round first place [] round = plain_free place first round
-    plain_round first place (next ∷ places) round = (plain_free place next round.0, plain_round first next places round.1)
-
-    pub plain_closed : (places : List ℕ) → IsClosed (IsFree loads notes) places
-        → IsClosed (IsFreeLink loads notes) (plains places)
-    plain_closed [] closed = closed
-    plain_closed (place ∷ places) closed = plain_round place place places closed
 
     module _ (start : ℕ) where
       -- nodes are their locations

@@ -1,11 +1,11 @@
 -- The product of `most + 1` over marks.
-use Rattle.std.proofs.Common.{◌≡◌, ℕ, zero, suc, ◌+◌, ◌*◌, ◌^◌, ◌<◌, ◌≤◌, List, [], ◌∷◌, length, get_or, drop, ap, sym}
+use Rattle.std.proofs.Common.{◌≡◌, ℕ, zero, suc, ◌+◌, ◌*◌, ◌^◌, ◌<◌, ◌≤◌, List, ◌∷◌, length, get_or, drop, ap, sym, []}
 use Rattle.std.proofs.Common.{◌∙◌, arith, inl, inr}
-use Rattle.std.proofs.Math.Nat.{mul-le-mul_left, mul-le-mul_right, mul_assoc, mul_comm, mul-one, mul-zero, zero-mul}
+use Rattle.std.proofs.Math.Nat.{mul-le-mul_left, mul-le-mul_right, mul_assoc, mul-zero}
 use Rattle.std.proofs.Math.Nat.{pow-succ'}
 use Rattle.std.proofs.Math.Nat.{pow-le-pow_right, min-eq_left, min-le_left, min-le_right, min_comm}
 use Rattle.std.proofs.lemmas.Bool.{cases_lt}
-use Rattle.std.proofs.lemmas.List.{drop_more, drop_all}
+use Rattle.std.proofs.lemmas.List.{drop_more}
 use Rattle.drum_times.specs.declared.notes.mark.Mark.{Mark}
 use Rattle.drum_flow.specs.Accepted.{counts_of, capped}
 
@@ -65,28 +65,6 @@ told_more marks place product next mark inside here is so_far =
     ∙ told_first (product * (mark.most + 1)) rest
     ∙ ap capped (mul_assoc product (mark.most + 1) rest) ∙ ap (λ (n : ℕ). capped (product * n)) (sym next_mark) ∙ so_far
 
-pub told_all : (marks : List Mark) (place product : ℕ) → length marks ≤ place → product ≤ 2 ^ 127
-    → capped (product * counts_of (drop place marks)) ≡ capped (counts_of marks) → product ≡ capped (counts_of marks)
-told_all marks place product past low is =
-    sym (told_less product low) ∙ ap capped (sym (mul-one product))
-    ∙ ap (λ (rest : List Mark). capped (product * counts_of rest)) (sym (drop_all place marks past)) ∙ is
-
--- so many words times counts that are told
-pub told_product : (words counts told_counts product : ℕ) → told_counts ≡ capped counts
-    → product ≡ capped (words * told_counts) → product ≡ capped (words * counts)
-told_product zero counts told_counts product is all =
-    all ∙ ap capped (zero-mul told_counts ∙ sym (zero-mul counts))
-told_product (suc words) counts told_counts product is all =
-    all ∙ ap capped (mul_comm (suc words) told_counts) ∙ ap (λ (n : ℕ). capped (n * suc words)) is
-    ∙ told_first counts (suc words) ∙ ap capped (mul_comm counts (suc words))
-
--- what is told as few is few
-pub few_told : (n : ℕ) → capped n ≤ 4000000 → n ≤ 4000000
-few_told n few = elim (cases_lt n (2 ^ 127)) [
-  | inl low ↦ omega (arith, told_less n (omega (arith, low)), few)
-  | inr high ↦ absurd (omega (arith, told_past n high, few))
-]
-
 -- what is few is told as it is
 pub many_told : (n : ℕ) → 4000000 < capped n → 4000000 < n
 many_told n many = omega (arith, many, min-le_left n (2 ^ 127))
@@ -103,9 +81,6 @@ told_exact n low = elim (cases_lt n (2 ^ 127)) [
   | inl less ↦ told_less n (omega (arith, less))
   | inr high ↦ absurd (omega (arith, told_past n high, low))
 ]
-
-pub told_from : (n : ℕ) → 2 ^ 127 ≤ capped n → 2 ^ 127 ≤ n
-told_from n high = omega (arith, high, min-le_left n (2 ^ 127))
 
 -- Of eight marks at most, and no more words than there are, the product is told as it is.
 pub told_of_few : (words : ℕ) (marks : List Mark) → words ≤ 2004 → length marks ≤ 8

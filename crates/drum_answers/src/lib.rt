@@ -5,9 +5,6 @@
 //!
 //! Definitions, in the order to read them: `Says` is what is said, and why nothing is. `Basis` says
 //! what the code means by what a worst walk is told by.
-//!
-//! Proofs. `Bases` shows why there is nothing to tell a worst walk by, and `Early` how long the
-//! walk beside a ceiling takes at most.
 #![tactic(auto)]
 
 mod analysis;

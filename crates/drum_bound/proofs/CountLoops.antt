@@ -1,12 +1,12 @@
 -- Counts of marks taken from a number and put into one, a mark at a time.
-use Rattle.std.proofs.Common.{◌≡◌, ℕ, zero, suc, ◌+◌, ◌*◌, ◌/◌, ◌%◌, ◌<◌, ◌≤◌, List, [], ◌∷◌, length, take, drop}
-use Rattle.std.proofs.Common.{get_or, ap, sym, subst, ◌∙◌, inl, inr, ◌⊎◌, arith, ◌++◌, append_assoc, take-suc-set}
+use Rattle.std.proofs.Common.{◌≡◌, ℕ, zero, suc, ◌+◌, ◌*◌, ◌/◌, ◌%◌, ◌<◌, ◌≤◌, List, ◌∷◌, length, take, drop, []}
+use Rattle.std.proofs.Common.{get_or, ap, sym, subst, ◌∙◌, inl, inr, ◌⊎◌, arith}
 use Rattle.std.specs.Prelude.{slice_set}
 use Rattle.std.proofs.Math.Nat.{mul-le-mul_left, mul-le-mul_right}
 use Rattle.std.proofs.Math.Seq.{take-set-lt}
 use Rattle.std.proofs.lemmas.Bool.{cases_lt}
 use Rattle.std.proofs.lemmas.Grind.{common_steps}
-use Rattle.std.proofs.lemmas.List.{append-nil, drop_more, drop_all, drop-set, length-take-le}
+use Rattle.std.proofs.lemmas.List.{drop_more, drop-set, length-take-le}
 use Rattle.std.proofs.lemmas.Nat.{div-add-mod', mod_below}
 use Rattle.drum_times.specs.declared.notes.mark.Mark.{Mark}
 use Rattle.drum_machine.specs.Counts.{AreWithin}
@@ -14,7 +14,7 @@ use Rattle.drum_flow.specs.Accepted.{counts_of}
 use Rattle.drum_flow.specs.Passes.{leading, leading-<}
 use Rattle.drum_bound.specs.Digits.{digits}
 use Rattle.drum_bound.proofs.DigitsLaws.{counts_some, digits_leading, number_within}
-use Rattle.drum_bound.specs.Table.{counts_for, number_of}
+use Rattle.drum_bound.specs.Table.{number_of}
 
 -- A number is `prefix` times the number of counts that these marks can have, and the number of
 -- these counts.
@@ -37,18 +37,6 @@ written_of : (counts : List ℕ) (size place x : ℕ) → place < size → size 
 written_of counts size place x below inside =
     ap (drop place) (take-set-lt size counts place x below)
     ∙ drop-set (take size counts) place x (omega (arith, length-take-le size counts inside))
-
--- the whole number, with no mark taken yet
-pub leads_none : (marks : List Mark) (counts : List ℕ) (number : ℕ) → length marks ≤ length counts
-    → Leads (drop (length marks) marks) (counts_from marks (length marks) counts) number number
-leads_none marks counts number long =
-    let none_left : drop (length marks) marks ≡ [] = drop_all (length marks) marks (omega arith) in
-    let none_held : counts_from marks (length marks) counts ≡ [] =
-    drop_all (length marks) (take (length marks) counts)
-    (omega (arith, length-take-le (length marks) counts long)) in
-    let nothing : Leads [] [] number number = record { same = omega arith; within = tt } in
-    subst (λ (ms : List Mark). Leads ms (counts_from marks (length marks) counts) number number) (sym none_left)
-    (subst (λ (cs : List ℕ). Leads [] cs number number) (sym none_held) nothing)
 
 -- a mark's count taken from a number, over plain numbers
 take_apart : (quotient remainder many whole size others number : ℕ) → quotient * many + remainder ≡ whole
@@ -209,29 +197,3 @@ number_small marks place later d counts number next inside long within same =
     let left = number_within (drop place marks) (counts_from marks place counts)
     (within_from marks (take (length marks) counts) place within) in
     omega (arith, more, left, counts_fewer marks place)
-
--- a mark's count is taken from the number in the table
-pub taken_more : (marks : List Mark) (place : ℕ) (d : Mark) (counts : List ℕ) (rest : ℕ) (all : List ℕ)
-    → place < length marks → place < length counts
-    → take place counts ++ counts_for (drop place marks) rest ≡ all
-    → take (place + 1) (slice_set counts place (rest % ((get_or marks place d).most + 1)))
-    ++ counts_for (drop (place + 1) marks) (rest / ((get_or marks place d).most + 1)) ≡ all
-taken_more marks place d counts rest all inside held so_far =
-    let mark = get_or marks place d in
-    let many = mark.most + 1 in
-    let left = counts_for (drop (place + 1) marks) (rest / many) in
-    let next : place + 1 ≡ suc place = omega arith in
-    ap (λ (n : ℕ). take n (slice_set counts place (rest % many)) ++ left) next
-    ∙ ap (λ (xs : List ℕ). xs ++ left) (take-suc-set counts place (rest % many) held)
-    ∙ append_assoc (take place counts) (rest % many ∷ []) left
-    ∙ ap (λ (ms : List Mark). take place counts ++ counts_for ms rest) (sym (drop_more marks place d inside))
-    ∙ so_far
-
--- and all are taken
-pub taken_all : (marks : List Mark) (place : ℕ) (counts : List ℕ) (rest : ℕ) (all : List ℕ) → place ≡ length marks
-    → take place counts ++ counts_for (drop place marks) rest ≡ all → take (length marks) counts ≡ all
-taken_all marks place counts rest all last so_far =
-    ap (λ (n : ℕ). take n counts) (sym last)
-    ∙ sym (append-nil (take place counts))
-    ∙ ap (λ (ms : List Mark). take place counts ++ counts_for ms rest) (sym (drop_all place marks (omega (arith, last))))
-    ∙ so_far

@@ -1,5 +1,5 @@
 -- The walk that is followed back from the latest of all that a finished scan keeps.
-use Rattle.std.proofs.Common.{◌≡◌, ℕ, ◌+◌, ◌-◌, ◌<◌, ◌≤◌, List, [], ◌∷◌, ◌++◌, map, reverse, ap, sym, ◌∙◌, subst}
+use Rattle.std.proofs.Common.{◌≡◌, ℕ, ◌+◌, ◌-◌, ◌<◌, ◌≤◌, List, ◌∷◌, ◌++◌, map, reverse, ap, sym, ◌∙◌, subst, []}
 use Rattle.std.proofs.Common.{inl, inr, ◌⊎◌, Option, Some, None, arith}
 use Rattle.std.proofs.lemmas.List.{reverse-append}
 use Rattle.std.specs.Prelude.{slice_get, slice_index}
@@ -251,11 +251,6 @@ module _ (g : Setting) (order : List ℕ) (cells : List (Option Latest)) (last :
         },
         ap (λ (time : ℕ). time_from time hops) (sym nothing) ∙ is.time,
       )
-
-  -- So do all hops that were followed back.
-  pub trace_longest : (end : Latest) (visits : List Visit) → IsTraced g order cells last end visits
-      → AreLongest g (start_angle g.start) (map seen_visit (reverse visits))
-  trace_longest end visits t = subst (AreLongest g (start_angle g.start)) t.same t.longest
 
   -- Followed back to the start, it is a walk.
   pub trace_whole : (end : Latest) (visits : List Visit) → IsTraced g order cells last end visits → end.origin ≡ None

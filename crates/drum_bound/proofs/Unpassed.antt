@@ -1,5 +1,5 @@
 -- No walk passes what a finished scan keeps, nor the latest of all.
-use Rattle.std.proofs.Common.{◌≡◌, ℕ, zero, suc, ◌+◌, ◌*◌, ◌<◌, ◌≤◌, List, [], ◌∷◌, ap, sym, ◌∙◌, subst, Option, Some}
+use Rattle.std.proofs.Common.{◌≡◌, ℕ, zero, suc, ◌+◌, ◌*◌, ◌<◌, ◌≤◌, List, ◌∷◌, ap, sym, ◌∙◌, subst, Option, Some, []}
 use Rattle.std.proofs.Common.{arith}
 use Rattle.std.specs.Prelude.{Contains}
 use Rattle.drum_core.specs.declared.instruction.Instruction.{Instruction}
@@ -155,40 +155,6 @@ module _ (g : Setting) (order : List ℕ) (cells : List (Option Latest)) (last :
       (λ key' kept' inside' there' before' walk.
       unpassed_behind angle k hop.ended key' kept' next more inside' there' walk.0.allowed
       (end_before angle k hop.ended key' kept'.clock next walk.0 before') walk.1)
-
-  -- hops from a key on that begin k revolutions or more before what is kept there
-  unpassed_from : (angle k time : ℕ) (more : List Taken) → AreUnpassedFrom angle k time more
-  unpassed_from angle k time [] key kept inside there before walk =
-      unpassed_none angle k time key kept inside there before
-  unpassed_from angle k time (hop ∷ more) key kept inside there before walk =
-      unpassed_behind angle k time key kept hop more inside there walk.0.allowed
-      (end_before angle k time key kept.clock hop walk.0 before) walk.1
-
-  unpassed_at : (angle k : ℕ) (more : List Taken) (place time key : ℕ) (counts : List ℕ) (kept : Latest)
-      → IsKey g.notes.marks order key place counts → cell_at cells key ≡ Some kept
-      → angle + time + 50 * k ≤ kept.clock → IsWalkFrom g angle place time counts more
-      → IsUnpassed angle k place time counts more
-  unpassed_at angle k more place time key counts kept is there before =
-      at_key (λ at passed. IsWalkFrom g angle at time passed more → IsUnpassed angle k at time passed more) key place
-      counts is (unpassed_from angle k time more key kept is.below there before)
-
-  -- Hops that begin k revolutions or more before what is kept at their key end as many before the
-  -- latest of all.
-  pub below_from : (angle k : ℕ) (hops : List Taken) (place time key : ℕ) (counts : List ℕ) (kept : Latest)
-      → IsKey g.notes.marks order key place counts → cell_at cells key ≡ Some kept
-      → angle + time + 50 * k ≤ kept.clock → IsWalkFrom g angle place time counts hops
-      → angle + time_from time hops + 50 * k ≤ last.clock
-  below_from angle k hops place time key counts kept is there before walk =
-      (unpassed_at angle k hops place time key counts kept is there before walk).below
-
-  -- Where they arrive something is kept that is k revolutions or more later.
-  pub arrives_from : (angle k : ℕ) (hops : List Taken) (place time key : ℕ) (counts : List ℕ) (kept : Latest)
-      → IsKey g.notes.marks order key place counts → cell_at cells key ≡ Some kept
-      → angle + time + 50 * k ≤ kept.clock → IsWalkFrom g angle place time counts hops
-      → (place' time' : ℕ) (counts' : List ℕ) → Arrive g place time counts hops place' time' counts'
-      → Arrives g.notes.marks order cells place' counts' (angle + time' + 50 * k)
-  arrives_from angle k hops place time key counts kept is there before walk =
-      (unpassed_at angle k hops place time key counts kept is there before walk).arrivals
 
   -- The first hop of a walk ends k revolutions or more before the latest end from what is kept for
   -- the start.

@@ -1,5 +1,5 @@
 -- Where hops begin that stand one behind the other.
-use Rattle.std.proofs.Common.{◌≡◌, ℕ, zero, suc, ◌<◌, List, [], ◌∷◌, ◌++◌, length, length-append, refl, ap, sym, ◌∙◌}
+use Rattle.std.proofs.Common.{◌≡◌, ℕ, zero, suc, ◌<◌, List, ◌∷◌, ◌++◌, length, length-append, refl, ap, sym, ◌∙◌, []}
 use Rattle.std.proofs.Common.{subst, arith, Option, Some, None, inl, inr}
 use Rattle.std.proofs.lemmas.Bool.{cases_lt}
 use Rattle.std.proofs.lemmas.List.{append-nil}
@@ -10,7 +10,7 @@ use Rattle.drum_rounds.proofs.SpelledLaws.{spelled_before, spelled_last}
 use Rattle.drum_bracket.proofs.Lists.{at_before, at_last}
 use Rattle.drum_bracket.specs.declared.ends.Ends.{Ends}
 use Rattle.drum_bracket.specs.EndsOf.{first_of, last_of, AreAllEnds, AreEnds}
-use Rattle.drum_bracket.specs.RoundsText.{first_place, last_place}
+use Rattle.drum_bracket.specs.RoundsText.{last_place}
 
 first_joined : (xs ys : List PlacedHop) (place : ℕ) → first_of xs ≡ Some place → first_of (xs ++ ys) ≡ Some place
 first_joined [] ys place is = absurd (cc)
@@ -27,11 +27,6 @@ both_ends one other both xs ys first last p q = (
   first_joined xs ys both.first.number (p.0 ∙ ap Some (sym first)),
   last_joined xs ys both.last.number (q.1 ∙ ap Some (sym last)),
 )
-
--- the text's words for them
-pub first_told : (ends : Ends) (hops : List PlacedHop) → AreEnds (Some ends) hops → ends.first.number ≡ first_place hops
-first_told ends [] are = absurd (cc)
-first_told ends (hop ∷ hops) are = cc
 
 last_is : (hop : PlacedHop) (hops : List PlacedHop) → last_place (hop ∷ hops) ≡ unwrap_or (last_of hops) hop.place
 last_is hop [] = refl

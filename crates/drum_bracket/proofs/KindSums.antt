@@ -1,5 +1,5 @@
 -- What the hops of a walk take that are of one kind, by the pieces that spell them out.
-use Rattle.std.proofs.Common.{◌≡◌, ℕ, ◌+◌, ◌-◌, ◌%◌, ◌≤◌, inl, inr, Bool, true, false, cond, List, [], ◌∷◌}
+use Rattle.std.proofs.Common.{◌≡◌, ℕ, ◌+◌, ◌-◌, ◌%◌, ◌≤◌, inl, inr, Bool, true, false, cond, List, ◌∷◌, []}
 use Rattle.std.proofs.Common.{filter, length, refl, ap, sym, ◌∙◌, subst, arith}
 use Rattle.std.specs.Prelude.{if◌then◌else◌, sum_by, Contains}
 use Rattle.std.proofs.lemmas.List.Sums.{sum_by-cons}
@@ -185,20 +185,6 @@ sum_at_most one other (hop ∷ hops) less =
       sum_by-cons one hop hops,
       sum_by-cons other hop hops,
     )
-
--- a hop that comes is one at least
-pub counts_one : (is : PlacedHop → Bool) (hops : List PlacedHop) (one : PlacedHop) → Contains hops one
-    → is one ≡ true → 1 ≤ sum_by (of_those is (λ _. 1)) hops
-counts_one is [] one has so = absurd (contains_none one has)
-counts_one is (hop ∷ hops) one has so = elim (contains_cases hop one hops has) [
-  | inl same ↦
-      omega (
-        arith,
-        sum_by-cons (of_those is (λ _. 1)) hop hops,
-        ap {B = ℕ} (λ (b : Bool). if b then 1 else 0) (ap is same ∙ so),
-      )
-  | inr behind ↦ omega (arith, sum_by-cons (of_those is (λ _. 1)) hop hops, counts_one is hops one behind so)
-]
 
 pub all_count : (visits : List Visited) → sum_by (λ _. 1) visits ≡ length visits
 all_count [] = refl

@@ -1,5 +1,5 @@
 -- That the rows of all kinds, sorted, are the waits of a walk in rounds.
-use Rattle.std.proofs.Common.{◌≡◌, ℕ, zero, suc, ◌+◌, ◌-◌, ◌%◌, ◌<◌, ◌≤◌, ◌⊎◌, inl, inr, Bool, true, false, List, [], ◌∷◌, ◌++◌}
+use Rattle.std.proofs.Common.{◌≡◌, ℕ, zero, suc, ◌+◌, ◌-◌, ◌%◌, ◌<◌, ◌≤◌, ◌⊎◌, inl, inr, Bool, true, false, List, ◌∷◌, ◌++◌, []}
 use Rattle.std.proofs.Common.{filter, flat_map, length, map, take, refl, ap, sym, ◌∙◌, subst, arith, Option, Some, None}
 use Rattle.std.specs.Map.{values_of}
 use Rattle.std.specs.Prelude.{codes, decimal, option_map, slice_get, sum_by, Contains}
@@ -105,9 +105,6 @@ module _ (g : Setting) (angle : ℕ) (visits : List Visited) (pieces : List Piec
     (laid : AreLaid g.times angle 0 visits (spelled pieces)) where
   module _ (is : PlacedHop → Bool) (seen : Visited) (tests : (hop : PlacedHop) → is hop ≡ is_alike seen (from_to 0 0 hop))
       (row : KindRow) (its : IsRow g.times pieces often (length pieces) is row) where
-    alone_hop : PlacedHop
-    alone_hop = seen_placed its.one
-
     -- the kind is that of its hop
     of_seen : is_alike seen (seen_timed row.told) ≡ true
     of_seen = ap (is_alike seen) its.told ∙ sym (tests (seen_placed its.one)) ∙ its.has

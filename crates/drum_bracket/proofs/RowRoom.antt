@@ -1,5 +1,5 @@
 -- That what is added up over the hops of a kind has room.
-use Rattle.std.proofs.Common.{◌≡◌, ℕ, ◌+◌, ◌*◌, ◌^◌, ◌<◌, ◌≤◌, Bool, true, List, [], ◌∷◌, length, map, take}
+use Rattle.std.proofs.Common.{◌≡◌, ℕ, ◌+◌, ◌*◌, ◌^◌, ◌<◌, ◌≤◌, Bool, true, List, ◌∷◌, length, map, take, []}
 use Rattle.std.proofs.Common.{refl, ap, ◌∙◌, arith, Some}
 use Rattle.std.specs.Prelude.{slice_get, slice_index, sum_by, Contains}
 use Rattle.std.proofs.lemmas.List.Sums.{sum_by-cons}
@@ -113,9 +113,6 @@ module _ (deck : Deck) (times : Times) (notes : Notes) (walk : InRounds) (right 
   module _ (number : ℕ) (one : Placed) (here : slice_get (pieces_of walk) number ≡ Some (piece.Hop one)) where
     inside : number < length (pieces_of walk)
     inside = slice_get_within (pieces_of walk) number (piece.Hop one) here
-
-    pub has_lasting : number < length (lasting_of walk)
-    has_lasting = omega (arith, inside, right.1.each.0)
 
     pub has_often : number < length (often_of walk)
     has_often = omega (arith, inside, right.1.each.1)

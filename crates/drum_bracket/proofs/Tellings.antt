@@ -1,5 +1,5 @@
 -- How pieces are told, by the numbers of those that they name.
-use Rattle.std.proofs.Common.{◌≡◌, ℕ, zero, suc, ◌+◌, ◌-◌, ◌*◌, ◌<◌, ◌≤◌, Bool, true, false, List, [], ◌∷◌, ◌++◌}
+use Rattle.std.proofs.Common.{◌≡◌, ℕ, zero, suc, ◌+◌, ◌-◌, ◌*◌, ◌<◌, ◌≤◌, Bool, true, false, List, ◌∷◌, ◌++◌, []}
 use Rattle.std.proofs.Common.{length, replicate, take, drop, get_or, flat_map, refl, ap, sym, ◌∙◌, subst, arith, Option, Some, None}
 use Rattle.std.proofs.Common.{append_assoc, length-append, Vec, Global, inl, inr}
 use Rattle.std.specs.Prelude.{slice_get, slice_index, sum_by, unwrap_or}
@@ -439,10 +439,6 @@ row_sooner t limit names i told between less is =
       ap (λ (x : List (List ℕ) × PartsSoFar). x.1.time) (row_at t limit names i told less),
       row_later t limit (drop (i + 1) names) (named_told t limit here (row_told t limit (take i names) told).1).1,
     )
-
-pub row_all : (t : Teller) (limit : ℕ) (names : List ℕ) (i : ℕ) (told : PartsSoFar) → length names ≤ i
-    → row_told t limit (take i names) told ≡ row_told t limit names told
-row_all t limit names i told low = ap (λ (ns : List ℕ). row_told t limit ns told) (take_all i names low)
 
 -- ---- the whole walk
 

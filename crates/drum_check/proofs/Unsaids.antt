@@ -1,5 +1,5 @@
 -- Those of a list that have a property, and the marks that don't say inside which other they stand.
-use Rattle.std.proofs.Common.{◌≡◌, ℕ, zero, suc, ◌+◌, List, [], ◌∷◌, ◌++◌, map, refl, ap, sym, ◌∙◌, subst, inl, inr}
+use Rattle.std.proofs.Common.{◌≡◌, ℕ, zero, suc, ◌+◌, List, ◌∷◌, ◌++◌, map, refl, ap, sym, ◌∙◌, subst, inl, inr, []}
 use Rattle.std.proofs.Common.{arith}
 use Rattle.std.specs.Prelude.{flat_map}
 use Rattle.std.specs.List.{range_with_len}
@@ -78,13 +78,6 @@ pub record AreAdded {X F : Type 0} (P : X → Type 0) (told : X → F) (xs : Lis
   pub added : after ≡ before ++ map told those
 
 module _ {X F : Type 0} (P : X → Type 0) (told : X → F) where
-  pub added_none : (before : List F) → AreAdded P told [] before before
-  added_none before = record { those = []; are = refl; added = sym (append_none before) }
-    where
-      append_none : (zs : List F) → zs ++ [] ≡ zs
-      append_none [] = refl
-      append_none (z ∷ zs) = ap (λ (all : List F). z ∷ all) (append_none zs)
-
   pub added_also : (xs ys : List X) (before between after : List F) → AreAdded P told xs before between
       → AreAdded P told ys between after → AreAdded P told (xs ++ ys) before after
   added_also xs ys before between after first second = record {

@@ -1,15 +1,12 @@
 -- What is asked of a source, piece by piece.
-use Rattle.std.proofs.Common.{◌≡◌, ℕ, ◌+◌, ◌≤◌, List, [], ◌∷◌, ◌++◌, Option, Some, None}
-use Rattle.std.proofs.Common.{◌⊎◌, refl, inl, inr, ap, sym, ◌∙◌, subst, arith, append_assoc}
+use Rattle.std.proofs.Common.{◌≡◌, ℕ, ◌+◌, List, ◌∷◌, ◌++◌, Option, Some, None, []}
+use Rattle.std.proofs.Common.{refl, inl, inr, ap, sym, ◌∙◌, subst, append_assoc}
 use Rattle.std.proofs.Common.{append-nil}
 use Rattle.drum_lines.specs.declared.fault.Fault.{Fault}
-use Rattle.drum_lines.specs.declared.fault.Fault.TheVariants as faults
 use Rattle.drum_lines.specs.declared.part.Part as parts
-use Rattle.drum_lines.specs.declared.part.PartFault.TheVariants as what
 use Rattle.drum_lines.specs.FaultStatus.{reads_failed}
-use Rattle.drum_documents.specs.Asked.{AreLookedAt, AreLookedAtUpTo, Asked, AsksFor, IsLookedAt, IsOfText, IsRead, MayWant}
-use Rattle.drum_documents.specs.Asked.{NamedFile, Reading, failures_told, most_of, reading}
-use Rattle.drum_documents.specs.Asked.{returned, sought}
+use Rattle.drum_documents.specs.Asked.{AreLookedAt, AreLookedAtUpTo, Asked, AsksFor, IsLookedAt, IsOfText}
+use Rattle.drum_documents.specs.Asked.{NamedFile}
 use Rattle.drum_documents.specs.Files.{AreTold, FilesTold, Contents, behind}
 
 -- what is asked is also something else
@@ -32,23 +29,6 @@ asks_then (Some earlier) (Some middle) (Some all) P Q R f first later =
     (first.0 ++ later.0, same, f first.0 later.0 first.2 later.2)
 
 -- ---- one file
-
-pub not_opened : (of : parts.Part) (name : List ℕ) (before after : Option (List Asked))
-    → AsksFor before after (λ more. more ≡ sought name ∷ [])
-    → AsksFor before after (IsLookedAt of name (Some (faults.Part of what.Open)))
-not_opened of name before after asks = asks_as before after _ _ (λ asked is. inl (refl, is)) asks
-
-pub read_back : (of : parts.Part) (name : List ℕ) (told : Option Fault) (read : Reading)
-    (before between after : Option (List Asked)) → IsOfText of told
-    → IsRead (most_of of) told read → AsksFor before between (λ more. more ≡ sought name ∷ [])
-    → AsksFor between after (λ more. more ≡ returned read ∷ []) → AsksFor before after (IsLookedAt of name told)
-read_back of name told read before between after own is first later =
-    asks_then before between after _ _ _ (λ one other seeks gives. inr (
-      own,
-      read,
-      is,
-      ap (λ (asked : List Asked). asked ++ other) seeks ∙ ap (λ (asked : List Asked). (sought name ∷ []) ++ asked) gives,
-    )) first later
 
 -- a text that was read is refused
 pub refused_later : (of : parts.Part) (name : List ℕ) (told : Fault) → reads_failed told ≡ 0
@@ -77,38 +57,6 @@ refused_later of name told none own asked (inr is) = inr (
 )
 
 -- ---- a text
-
--- how a text that was fresh was read
-pub text_read : (most : ℕ) (told : Option Fault)
-    (called failed ended given spare calls failures ends bytes idle : ℕ)
-    → called ≡ 0 → failed ≡ 0 → ended ≡ 0 → given ≡ 0 → spare ≡ 0 → calls ≤ called + most
-    → calls + given ≤ called + bytes + 1 → ends ≤ ended + 1 → idle ≤ spare + 1
-    → bytes ≤ given + most → (bytes ≡ given + most → failures ≡ failed) → failures ≡ failed + failures_told told
-    → (ends ≡ ended + 1) ⊎ (bytes ≡ given + most) ⊎ (failures ≡ failed + 1) ⊎ MayWant told
-    → IsRead most told (reading calls failures ends bytes idle)
-text_read most told called failed ended given spare calls failures ends bytes idle uncalled unfailed unended ungiven
-    unspared often each met idles taken full counted whole = record {
-      failures = omega (arith, counted, unfailed);
-      idle = omega (arith, idles, unspared);
-      calls = omega (arith, often, uncalled);
-      each = omega (arith, each, uncalled, ungiven);
-      ends = omega (arith, met, unended);
-      bytes = omega (arith, taken, ungiven);
-      full = λ all. omega (arith, full (omega (arith, all, ungiven)), unfailed);
-      whole = elim whole [
-        | inl is ↦ inl (omega (arith, is, unended))
-        | inr (inl is) ↦ inr (inl (omega (arith, is, ungiven)))
-        | inr (inr (inl is)) ↦ inr (inr (inl (omega (arith, is, unfailed))))
-        | inr (inr (inr wants)) ↦ inr (inr (inr wants))
-      ];
-    }
-
-pub unfailed : (old new : ℕ) → (new ≡ old + 1 → ⊥) → new ≤ old + 1 → old ≤ new → new ≡ old + 0
-unfailed old new not_one once grows = omega (arith, not_one, once, grows)
-
-pub met_or_past : {Met Past Failed Wants : Type 0} → Met ⊎ Past → Met ⊎ Past ⊎ Failed ⊎ Wants
-met_or_past (inl met) = inl met
-met_or_past (inr past) = inr (inl past)
 
 -- ---- the files of a command
 

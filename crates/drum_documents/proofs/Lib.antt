@@ -3,4 +3,3 @@ mod Cuts
 mod Giving
 mod Joining
 mod Refusing
-mod Unread

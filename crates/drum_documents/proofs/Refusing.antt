@@ -1,25 +1,12 @@
 -- What refuses the text of a deck; and that no fault of a text which was read says that a read failed.
-use Rattle.std.proofs.Common.{◌≡◌, ◌≢◌, ℕ, List, refl}
+use Rattle.std.proofs.Common.{◌≡◌, ◌≢◌, refl}
 use Rattle.drum_deck.specs.declared.deck.fault.DeckFault.{DeckFault}
 use Rattle.drum_deck.specs.declared.deck.fault.DeckFault.TheVariants.{Read, Memory, Card, Twice, NoStart, TwoStarts}
 use Rattle.drum_deck.specs.declared.deck.fault.DeckFault.TheVariants.{PastDrum, TooLong}
-use Rattle.drum_deck.specs.DeckText.{IsRefused}
 use Rattle.drum_inputs.specs.declared.fault.InputFault.{InputFault}
 use Rattle.drum_inputs.specs.declared.fault.InputFault.TheVariants as of_inputs
 use Rattle.drum_lines.specs.declared.fault.Fault.TheVariants as faults
 use Rattle.drum_lines.specs.FaultStatus.{reads_failed}
-use Rattle.drum_documents.specs.Documents.{IsNoDeck}
-
-pub no_deck : (bytes : List ℕ) → (fault : DeckFault) → fault ≢ Read
-    → (fault ≢ Read → fault ≢ Memory → IsRefused bytes fault) → IsNoDeck bytes fault
-no_deck bytes Read read refused = absurd (read refl)
-no_deck bytes Memory read refused = tt
-no_deck bytes (Card line) read refused = refused (λ is. cc) (λ is. cc)
-no_deck bytes (Twice location) read refused = refused (λ is. cc) (λ is. cc)
-no_deck bytes NoStart read refused = refused (λ is. cc) (λ is. cc)
-no_deck bytes (TwoStarts line) read refused = refused (λ is. cc) (λ is. cc)
-no_deck bytes (PastDrum line) read refused = refused (λ is. cc) (λ is. cc)
-no_deck bytes TooLong read refused = refused (λ is. cc) (λ is. cc)
 
 pub deck_unread : (fault : DeckFault) → fault ≢ Read → reads_failed (faults.Deck fault) ≡ 0
 deck_unread Read read = absurd (read refl)

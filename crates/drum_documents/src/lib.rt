@@ -11,8 +11,8 @@
 //! what is asked of a source: which files, in which order. `PartsOf` and `TextsOf` are the texts as
 //! the code holds them.
 //!
-//! Proofs. Of the joined form `Cuts`, `Joining` and `Giving`; of files `Asking`, `Refusing` and
-//! `Unread`. `Asking` serves crates above too.
+//! Proofs. Of the joined form `Cuts`, `Joining` and `Giving`; of files `Asking` and `Refusing`.
+//! `Asking` serves crates above too.
 #![tactic(auto)]
 
 mod documents;

@@ -1,5 +1,5 @@
 -- The faults of a line of inputs behind others, with their places.
-use Rattle.std.proofs.Common.{◌≡◌, ℕ, zero, suc, ◌+◌, ◌<◌, List, [], ◌∷◌, length, map, slice_get, refl, ap, sym, arith}
+use Rattle.std.proofs.Common.{◌≡◌, ℕ, zero, suc, ◌+◌, ◌<◌, List, ◌∷◌, length, map, slice_get, refl, ap, sym, arith, []}
 use Rattle.std.proofs.Common.{Option, Some, None, ◌∙◌, subst}
 use Rattle.std.proofs.lemmas.Option.{slice_get-map}
 use Rattle.std.specs.List.{AllWithin, HoldsAt}
@@ -11,8 +11,6 @@ use Rattle.drum_inputs.specs.declared.fault.InputFault.TheVariants as faults
 use Rattle.drum_inputs.specs.InputsText.{Line, IsLine, IsPastDrum, Repeats}
 use Rattle.drum_inputs.proofs.Repeated.{repeats_one}
 use Rattle.drum_faults.specs.InputFaults.{IsFirstRepeated, IsPlaced}
-use Rattle.drum_faults.specs.Slip.{slip_in}
-use Rattle.drum_faults.specs.declared.slip.Slip.{Slip}
 
 -- what stands at a place of a list is one of it
 found_any : {A : Type 0} (P : A → Type 0) (xs : List A) (k : ℕ) (x : A) → slice_get xs k ≡ Some x → P x → Any P xs
@@ -23,20 +21,6 @@ found_any P (y ∷ ys) zero x e p =
 found_any P (y ∷ ys) (suc k) x e p =
     let rest = found_any P ys k x e p in
     (suc rest.0, rest.1, omega (arith, rest.2), rest.3, rest.4)
-
--- a line that is none of inputs
-pub no_line : (lines : List Line) (bytes : List ℕ) (number : ℕ) (slip : Option Slip) → number ≡ length lines + 1
-    → ((line : Line) → ¬ IsLine bytes line) → slip ≡ slip_in bytes
-    → IsPlaced lines bytes (record { fault = faults.Line number; line = Some number; earlier = None; slip = slip })
-no_line lines bytes number slip counted none is_slip =
-    record { is = (counted, none); line = ap Some counted; earlier = refl; slip = is_slip }
-
-pub past_drum : (lines : List Line) (bytes : List ℕ) (number : ℕ) (line : Line) → number ≡ length lines + 1
-    → IsLine bytes line → IsPastDrum line
-    → IsPlaced lines bytes
-    (record { fault = faults.PastDrum number; line = Some number; earlier = None; slip = None })
-past_drum lines bytes number line counted is_line past =
-    record { is = (counted, (line, is_line, past)); line = ap Some counted; earlier = refl; slip = refl }
 
 -- a line that says again what an earlier one says, and the first of these
 pub repeated : (lines : List Line) (bytes : List ℕ) (number : ℕ) (line : Line) (index : ℕ) → number ≡ length lines + 1

@@ -1,13 +1,12 @@
 -- How the faults of the lines of inputs are found, one by one.
-use Rattle.std.proofs.Common.{◌≡◌, ℕ, ◌+◌, ◌≤◌, List, [], ◌∷◌, ◌++◌, length, map, refl, ap, sym, subst, arith}
+use Rattle.std.proofs.Common.{◌≡◌, ℕ, ◌+◌, List, ◌∷◌, ◌++◌, length, map, refl, ap, sym, subst, arith, []}
 use Rattle.std.proofs.Common.{inl, inr, length-append, append_assoc}
-use Rattle.std.proofs.lemmas.Bool.{cases_lt}
 use Rattle.std.proofs.lemmas.List.{append-nil, map-append}
 use Rattle.drum_deck.specs.Lines.{lines_of}
 use Rattle.drum_inputs.specs.declared.fault.InputFault.{InputFault}
 use Rattle.drum_inputs.specs.declared.line.Line as read
 use Rattle.drum_inputs.specs.declared.line.Line.TheVariants.{Comment}
-use Rattle.drum_inputs.specs.InputsText.{Line, comment, IsLine, AreSound, IsTooLong}
+use Rattle.drum_inputs.specs.InputsText.{Line, comment, IsLine, AreSound}
 use Rattle.drum_inputs.specs.Said.{said}
 use Rattle.drum_inputs.proofs.Sounds.{sound_more}
 use Rattle.drum_faults.specs.InputFaults.{IsPlaced, HaveInputFaults}
@@ -25,13 +24,6 @@ pub record ToldInputs (text rest : List ℕ) (before : List read.Line) (faults :
   pub left : length before + length (lines_of rest) ≡ length (lines_of text)
   pub all : (others : List (PlacedFault InputFault)) → HaveInputFaults (all_said before) (lines_of rest) others
       → HaveInputFaults [] (lines_of text) (faults ++ others)
-
-pub nothing_told : (text rest : List ℕ) → text ≡ rest → ToldInputs text rest [] []
-nothing_told text rest same = record {
-  sound = tt;
-  left = omega (arith, ap (λ (bytes : List ℕ). length (lines_of bytes)) same);
-  all = λ others have. subst (λ (bytes : List ℕ). HaveInputFaults [] (lines_of bytes) others) (sym same) have;
-}
 
 -- a line more is said
 said_more : (before : List read.Line) (line : read.Line) → all_said (before ++ line ∷ []) ≡ all_said before ++ said line ∷ []
@@ -84,9 +76,3 @@ pub all_told : (text rest : List ℕ) (before : List read.Line) (faults : List (
 all_told text rest before faults p nothing =
     subst (λ (fs : List (PlacedFault InputFault)). HaveInputFaults [] (lines_of text) fs) (append-nil faults)
     (p.all [] (subst (λ (texts : List (List ℕ)). HaveInputFaults (all_said before) texts []) (sym nothing) refl))
-
--- there are 4000 lines at most, where a text isn't too long
-pub few_told : (text rest : List ℕ) (before : List read.Line) (faults : List (PlacedFault InputFault))
-    → ¬ IsTooLong text → ToldInputs text rest before faults → length before ≤ 4000
-few_told text rest before faults short p = elim (cases_lt 4000 (length (lines_of text)))
-    [ inl more ↦ absurd (short (inl more)) | inr few ↦ omega (arith, few, p.left) ]

@@ -1,27 +1,17 @@
 -- Findings that are added one after the other.
-use Rattle.std.proofs.Common.{◌≡◌, ℕ, suc, ◌+◌, ◌-◌, ◌<◌, ◌≤◌, Bool, true, false, List, [], ◌∷◌, ◌++◌, map, length, get_or}
+use Rattle.std.proofs.Common.{◌≡◌, ℕ, suc, ◌+◌, ◌-◌, ◌<◌, ◌≤◌, Bool, true, false, List, ◌∷◌, ◌++◌, map, length, get_or, []}
 use Rattle.std.proofs.Common.{take}
 use Rattle.std.proofs.Common.{Some, ap, sym, ◌∙◌, arith, append_assoc}
 use Rattle.std.specs.Prelude.{filter, flat_map, if◌then◌else◌, slice_get}
 use Rattle.std.specs.List.{range_with_len}
 use Rattle.std.proofs.lemmas.Grind.{flat_map-append}
-use Rattle.std.proofs.lemmas.List.{append-nil, map_more, take_more}
+use Rattle.std.proofs.lemmas.List.{append-nil, take_more}
 use Rattle.std.proofs.lemmas.Simd.{map-map}
 use Rattle.std.proofs.lemmas.Option.{get_or_from_slice_get, slice_get_within}
 use Rattle.drum_core.specs.declared.location.Location.{Location}
 use Rattle.drum_flow.specs.Executed.{with_new}
 use Rattle.drum_flow.proofs.Additions.{with_new_append}
 use Rattle.drum_finding.specs.Finding.{Finding}
-
--- one more of those that were added one by one
-pub added_one : {X : Type 0} (f : X → Finding) (before found added : List Finding) (xs : List X) (k : ℕ) (x : X)
-    → k < length xs → x ≡ get_or xs k x → found ≡ before ++ map f (take k xs) → added ≡ found ++ f x ∷ []
-    → added ≡ before ++ map f (take (k + 1) xs)
-added_one f before found added xs k x inside here so_far more =
-    more ∙ ap (λ (all : List Finding). all ++ f x ∷ []) so_far
-    ∙ append_assoc before (map f (take k xs)) (f x ∷ [])
-    ∙ ap (λ (one : _). before ++ (map f (take k xs) ++ f one ∷ [])) here
-    ∙ sym (ap (λ (all : List Finding). before ++ all) (map_more f xs k x inside))
 
 -- one more location whose findings were added
 pub added_some : (f : ℕ → List Finding) (before found added : List Finding) (places : List ℕ) (k place : ℕ)

@@ -1,5 +1,5 @@
 -- The nodes that are held are the definitions' nodes: what is open has an index of its own.
-use Rattle.std.proofs.Common.{◌≡◌, ℕ, zero, suc, ◌<◌, Bool, true, false, eqb, List, [], ◌∷◌, ◌++◌, length}
+use Rattle.std.proofs.Common.{◌≡◌, ℕ, zero, suc, ◌<◌, Bool, true, false, eqb, List, ◌∷◌, ◌++◌, length, []}
 use Rattle.std.proofs.Common.{get_or, map, Option, Some, refl, ap, sym, ◌∙◌, subst, inl, inr, arith}
 use Rattle.std.specs.Prelude.{slice_get, slice_index_or, Contains, if◌then◌else◌, option_map, ◌||◌, ◌⊎◌}
 use Rattle.std.specs.Bool.{one_answer}
@@ -8,7 +8,7 @@ use Rattle.std.specs.Prelude.{position}
 use Rattle.std.proofs.lemmas.List.Quantifiers.{position-Some}
 use Rattle.std.proofs.lemmas.Map.Keys.{IsDistinct-head, IsDistinct-tail}
 use Rattle.std.proofs.lemmas.Bool.Decides.{Decides-eqb, Decides-and, Decides-like}
-use Rattle.std.proofs.lemmas.List.{append-nil, length-append, length-map, map-append}
+use Rattle.std.proofs.lemmas.List.{length-append, length-map, map-append}
 use Rattle.std.proofs.lemmas.Option.{get_or_from_slice_get, slice_get_within, slice_get-get_or, slice_get-map}
 use Rattle.drum_core.specs.declared.location.Location.{Location}
 use Rattle.drum_times.specs.Allowed.{Notes}
@@ -84,17 +84,6 @@ placed_last calls openings one new = record {
     last : (openings : List Open) → slice_get (openings ++ one ∷ []) (length openings) ≡ Some one
     last [] = refl
     last (first ∷ openings) = last openings
-
--- and what is has its index
-pub placed_there : (calls : List Call) (openings : List Open) (k : ℕ) (one : Open) (ways : List (Option ℕ))
-    → k < length openings → one ≡ get_or openings k one → ways ≡ open_in one calls
-    → ArePlacedIn calls openings openings ways k
-placed_there calls openings k one ways below is same = record {
-  here = ways_at calls openings k one (slice_get-get_or openings k one below ∙ ap Some (sym is)) ∙ ap Some (sym same);
-  more = [];
-  kept = sym (append-nil openings);
-  different = λ different. different;
-}
 
 -- the test of nodes that are held is that of nodes
 module _ (calls : List Call) (openings : List Open) (different : AreDifferent (ways_in calls openings)) where

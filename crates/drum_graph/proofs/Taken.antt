@@ -1,5 +1,5 @@
 -- Where the nodes of a flow graph at a location go on.
-use Rattle.std.proofs.Common.{◌≡◌, ℕ, suc, ◌+◌, ◌<◌, ◌≤◌, Bool, true, false, ◌&&◌, ◌||◌, List, [], ◌∷◌, ◌++◌, length, map, eqb}
+use Rattle.std.proofs.Common.{◌≡◌, ℕ, suc, ◌+◌, ◌<◌, ◌≤◌, Bool, true, false, ◌&&◌, ◌||◌, List, ◌∷◌, ◌++◌, length, map, eqb, []}
 use Rattle.std.proofs.Common.{Option, Some, None, take, get_or, refl, ap, sym, ◌∙◌, subst, inl, inr, arith}
 use Rattle.std.specs.Prelude.{◌⊎◌, Contains, IfNone, IfSome, filter, if◌then◌else◌, is_some, slice_get, ◌↔◌}
 use Rattle.std.specs.List.{list_any}
@@ -155,30 +155,10 @@ all_kept test places now k apart past so_far =
 
 -- the indices of the nodes at a location, of the first ones
 module _ (nodes : List flow.Node) (place : ℕ) where
-  pub none_at : AreAt nodes 0 place []
-  none_at = record {
-    only = λ index there. absurd (contains_none index there);
-    all = λ index node below. absurd (omega (arith, below));
-  }
-
   module _ (k : ℕ) (indices : List ℕ) (so_far : AreAt nodes k place indices) (node : flow.Node)
       (at : slice_get nodes k ≡ Some node) where
     itself : (index : ℕ) → index < k + 1 → k ≤ index → index ≡ k
     itself index below past = omega (arith, below, past)
-
-    same_node : (index : ℕ) (other : flow.Node) → index ≡ k → slice_get nodes index ≡ Some other → other ≡ node
-    same_node index other is here =
-        same_Some other node (sym here ∙ ap (λ (n : ℕ). slice_get nodes n) is ∙ at)
-
-    pub other_at : (node.place ≡ place → ⊥) → AreAt nodes (k + 1) place indices
-    other_at elsewhere = record {
-      only = so_far.only;
-      all = λ index other below here there. elim (cases_lt index k) [
-        | inl before ↦ so_far.all index other before here there
-        | inr past ↦ absurd (elsewhere
-            (sym (ap (λ (n : flow.Node). n.place) (same_node index other (itself index below past) here)) ∙ there))
-      ];
-    }
 
     pub more_at : node.place ≡ place → AreAt nodes (k + 1) place (indices ++ k ∷ [])
     more_at there = record {

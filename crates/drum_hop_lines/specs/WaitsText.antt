@@ -6,8 +6,8 @@ use Rattle.drum_times.specs.declared.entry.Entry.{Entry}
 use Rattle.drum_walks.specs.Visited.{Visited}
 use Rattle.drum_lines.specs.BoundText.{bound_text}
 use Rattle.drum_hop_lines.specs.MomentsText.{moment_text}
-use Rattle.drum_hop_lines.specs.Waits.{alike, data_at, for_cards, for_data, for_instruction, next_at}
-use Rattle.drum_hop_lines.specs.Waits.{time_alike}
+use Rattle.drum_hop_lines.specs.Waits.{alike, data_at, for_cards, for_data, for_instruction}
+use Rattle.drum_hop_lines.specs.Waits.{next_at, time_alike}
 use Rattle.drum_hop_lines.specs.WalkText.{hop_text}
 
 -- The line of the hops of a kind, by one of them, by how many they are, and by the word times that

@@ -1,8 +1,6 @@
 -- How the lines of inputs are read, one by one.
-use Rattle.std.proofs.Common.{◌≡◌, ℕ, ◌+◌, ◌<◌, ◌≤◌, List, [], ◌∷◌, ◌++◌, length, ap, sym, ◌∙◌, subst, arith, inl, inr}
+use Rattle.std.proofs.Common.{◌≡◌, ℕ, ◌+◌, ◌<◌, List, ◌∷◌, ◌++◌, length, ap, sym, ◌∙◌, subst, arith, []}
 use Rattle.std.proofs.Common.{length-append, append_assoc}
-use Rattle.std.proofs.lemmas.Bool.{cases_lt}
-use Rattle.std.proofs.lemmas.List.{append-nil}
 use Rattle.std.specs.Prelude.{Option, Some, None, IfSome, Result, Ok, Err, IfOk, IfErr}
 use Rattle.drum_deck.specs.Lines.{lines_of}
 use Rattle.drum_deck.proofs.FirstFaults.{say_append}
@@ -13,7 +11,7 @@ use Rattle.drum_inputs.specs.declared.inputs.Inputs.{Inputs}
 use Rattle.drum_inputs.specs.declared.stating.Stating.{Stating}
 use Rattle.drum_inputs.specs.InputsOfLines.{HoldsLines}
 use Rattle.drum_inputs.specs.Inputs.{AreInputsOf}
-use Rattle.drum_inputs.specs.InputsText.{Line, IsLine, Say, IsTooLong, AreInputs, IsFaultOfLine, IsFirstFault}
+use Rattle.drum_inputs.specs.InputsText.{Line, IsLine, Say, IsTooLong, AreInputs, IsFirstFault}
 use Rattle.drum_inputs.specs.InputsText.{IsRefused}
 
 -- Of a text some lines have been read, and this is left.
@@ -24,14 +22,6 @@ pub record Progress (text rest : List ℕ) (stating : Stating) (number : ℕ) : 
   pub said : Say texts lines
   pub holds : HoldsLines stating lines
   pub counted : number ≡ length texts
-
-pub few_left : (text rest : List ℕ) (stating : Stating) (number : ℕ) → (IsTooLong text → ⊥)
-    → Progress text rest stating number → number + length (lines_of rest) ≤ 4000
-few_left text rest stating number short p =
-    let long : length (lines_of text) ≡ length p.texts + length (lines_of rest) =
-    ap (λ (xs : List (List ℕ)). length xs) p.split ∙ length-append p.texts (lines_of rest) in
-    elim (cases_lt 4000 (length (lines_of text)))
-    [ inl more ↦ absurd (short (inl more)) | inr few ↦ omega (arith, few, long, p.counted) ]
 
 pub one_more : (text rest rest' : List ℕ) (stating stating' : Stating) (number : ℕ) (line : List ℕ) (says : Line)
     → (p : Progress text rest stating number)
@@ -56,27 +46,6 @@ first_refused text faults.TooLong short p = absurd p.first
 first_refused text (faults.Line n) short p = (short, p)
 first_refused text (faults.PastDrum n) short p = (short, p)
 first_refused text (faults.Repeated n) short p = (short, p)
-
-pub refused_here : (text rest rest' : List ℕ) (stating : Stating) (number : ℕ) (line : List ℕ) (fault : InputFault)
-    → (IsTooLong text → ⊥) → (p : Progress text rest stating number)
-    → lines_of rest ≡ line ∷ lines_of rest' → IsFaultOfLine p.lines (number + 1) line fault → IsRefused text fault
-refused_here text rest rest' stating number line fault short p steps first = first_refused text fault short (record {
-  texts = p.texts;
-  line = line;
-  others = lines_of rest';
-  split = p.split ∙ ap (λ (xs : List (List ℕ)). p.texts ++ xs) steps;
-  before = p.lines;
-  said = p.said;
-  sound = p.holds.sound;
-  first = subst (λ (n : ℕ). IsFaultOfLine p.lines (n + 1) line fault) p.counted first;
-})
-
-all_said : (text rest : List ℕ) (stating : Stating) (number : ℕ) → (p : Progress text rest stating number)
-    → lines_of rest ≡ [] → Say (lines_of text) p.lines
-all_said text rest stating number p nothing =
-    let all : lines_of text ≡ p.texts =
-    p.split ∙ ap (λ (xs : List (List ℕ)). p.texts ++ xs) nothing ∙ append-nil p.texts in
-    subst (λ (texts : List (List ℕ)). Say texts p.lines) (sym all) p.said
 
 pub left_too_long : (left : Option (List ℕ)) → IfSome left (λ bytes. 804000 < length bytes) → IfSome left IsTooLong
 left_too_long None more = tt

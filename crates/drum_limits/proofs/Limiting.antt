@@ -1,9 +1,6 @@
 -- What limits a run, and why nothing does.
-use Rattle.std.proofs.Common.{◌≡◌, ◌≢◌, ℕ, ◌≤◌, Bool, true, false, [], length, ◌&&◌, refl, arith}
-use Rattle.std.proofs.lemmas.Bool.{and_parts, eqb-true}
-use Rattle.std.proofs.lemmas.List.{nil_from_length}
-use Rattle.std.specs.Prelude.{IsTrue, not, nat_le, ◌==◌}
-use Rattle.std.specs.List.{list_all}
+use Rattle.std.proofs.Common.{ℕ, ◌≤◌, Bool, true, false, arith}
+use Rattle.std.specs.Prelude.{IsTrue, not}
 use Rattle.drum_flow.specs.declared.refusal.Refusal.TheVariants as refusal
 use Rattle.drum_flow.specs.Bounded.{IsBounded}
 use Rattle.drum_lines.specs.declared.fault.Fault.{Fault}
@@ -16,43 +13,11 @@ use Rattle.drum_ceiling.specs.Right.{IsTooDear}
 use Rattle.drum_documents.specs.declared.documents.Documents.{Documents}
 use Rattle.drum_documents.specs.Documents.{setting_of}
 use Rattle.drum_times.specs.Allowed.{Notes}
-use Rattle.drum_times.specs.Short.{is_plain, is_short}
-use Rattle.drum_limits.specs.Limits.{AreLong, AreShort, HaveNoBound, IsAnalysisFault, IsCeiling, IsCeilingFault}
+use Rattle.drum_times.specs.Short.{is_short}
+use Rattle.drum_limits.specs.Limits.{AreLong, AreShort, HaveNoBound, IsCeiling, IsCeilingFault}
 use Rattle.drum_limits.specs.Limits.{IsLimit, IsLimitFault}
 
--- short notes have no calls
-pub short_plain : (notes : Notes) → IsTrue (is_short notes) → notes.calls ≡ []
-short_plain notes short =
-    let plain = and_parts (nat_le (length notes.marks) 8 && list_all is_plain notes.marks) (length notes.calls == 0)
-    (so (is_short notes) short) in
-    nil_from_length notes.calls (eqb-true (length notes.calls) 0 plain.1)
-  where
-    so : (b : Bool) → IsTrue b → b ≡ true
-    so true is = refl
-    so false is = cc
-
--- why there is no bound of short notes is why there is no limit, unless it is the size
-pub no_limit : (documents : Documents) (fault : Fault) → AreShort documents
-    → ((product : ℕ) → fault ≢ faults.Refused (refusal.TooLarge product)) → IsAnalysisFault documents fault
-    → IsLimitFault documents fault
-no_limit documents (faults.Refused (refusal.NotLoaded location)) short other is = is
-no_limit documents (faults.Refused (refusal.NotInProfile location op)) short other is = is
-no_limit documents (faults.Refused (refusal.Alters writer word)) short other is = is
-no_limit documents (faults.Refused (refusal.Unbounded cycle)) short other is = is.round
-no_limit documents (faults.Refused (refusal.TooLarge product)) short other is = absurd (other product refl)
-no_limit documents (faults.Refused refusal.TooMany) short other is = is
-no_limit documents (faults.Refused refusal.HasCalls) short other is = absurd (is (short_plain documents.notes short))
-no_limit documents (faults.Refused refusal.Memory) short other is = is
-no_limit documents faults.NoPart short other is = absurd is
-no_limit documents (faults.Part part what) short other is = absurd is
-no_limit documents faults.Memory short other is = absurd is
-no_limit documents (faults.Deck fault) short other is = absurd is
-no_limit documents (faults.Times fault) short other is = absurd is
-no_limit documents (faults.Notes fault) short other is = absurd is
-no_limit documents (faults.Inputs fault) short other is = absurd is
-no_limit documents (faults.Loaded location) short other is = absurd is
-
--- and so is why there is no ceiling
+-- the fault that the code has for no ceiling says why there is none
 pub no_ceiling : (documents : Documents) (fault : Fault) → HaveNoBound documents
     → IsCeilingFault documents fault → IsLimitFault documents fault
 no_ceiling documents (faults.Refused (refusal.NotLoaded location)) none is = is

@@ -2,8 +2,7 @@
 //! past the limit of one and of long notes, a ceiling.
 //!
 //! Code. `limits` finds each of them. Definitions: `Limits` says what is known of documents, and
-//! why it isn't. Proofs: `Limiting` has why there is neither a bound nor a ceiling; it serves
-//! crates above too.
+//! why it isn't. Proofs: `Limiting` says why there is no ceiling; it serves crates above too.
 #![tactic(auto)]
 
 mod limits;

@@ -6,8 +6,8 @@
 //! has the parts of a line; `print/` puts each line on a sheet. `print/fault_line` hands a fault to
 //! the one of its kind: `print/deck_fault`, `note_fault`, `input_fault`, `part_fault`, and
 //! `refusal_line` for what refuses an analysis (faults 31 to 37). `print/mark_name` ends the line
-//! of a mark with its name. `telling` writes a text to the output that it is for, and tells the
-//! status then, after a write that failed too.
+//! of a mark with its name, and `print/verdict_line` has the line of a verdict. `telling` writes a
+//! text to the output that it is for, and tells the status then, after a write that failed too.
 //!
 //! Definitions, in the order to read them: `BoundText`, `VerdictText` and `FaultText` are the
 //! lines, and `NameText` is how the line of a mark ends with its name. `Status` is the number of

@@ -1,34 +1,14 @@
 -- The edges that don't go on, location by location.
-use Rattle.std.proofs.Common.{◌≡◌, ℕ, zero, suc, ◌+◌, ◌<◌, List, [], ◌∷◌, ◌++◌, length, map, take, get_or, Some}
-use Rattle.std.proofs.Common.{ap, sym, ◌∙◌, subst, inl, inr}
+use Rattle.std.proofs.Common.{◌≡◌, ℕ, zero, suc, ◌+◌, List, ◌∷◌, ◌++◌, take, Some, []}
+use Rattle.std.proofs.Common.{ap, sym, subst, inl, inr}
 use Rattle.std.specs.Prelude.{slice_get, Contains}
-use Rattle.std.proofs.lemmas.List.{map_push, append_assoc}
 use Rattle.std.proofs.lemmas.List.Elements.{Contains-append_left, Contains-append_right, Contains-append_cases}
 use Rattle.std.proofs.lemmas.List.Elements.{Contains-push, Contains-push_cases}
-use Rattle.drum_core.specs.declared.location.Location.{Location}
-use Rattle.drum_times.specs.declared.notes.edge.Edge.{Edge}
-use Rattle.drum_times.specs.EdgeOf.{edge_of}
 use Rattle.drum_order.specs.Graph.{AreDifferent}
 use Rattle.drum_order.proofs.Lists.{contains_here, contains_there, contains_cases, contains_none}
 use Rattle.drum_order.proofs.Lists.{contains_from_get}
-use Rattle.drum_flow.proofs.Founds.{numbers, numbers_more}
 use Rattle.drum_loops.specs.Closing.{AreTargets, AreBack, IsBack, edges_onto}
 use Rattle.drum_loops.specs.Loops.{AreApart}
-
--- the edge to one more location
-pub edges_more : (edges : List Edge) (old : List (ℕ × ℕ)) (from onto : Location) (targets : List Location)
-    (k : ℕ) → k < length targets → onto ≡ get_or targets k onto
-    → map edge_of edges ≡ old ++ edges_onto from.number (numbers (take k targets))
-    → map edge_of (edges ++ record { from = from; onto = onto } ∷ [])
-    ≡ old ++ edges_onto from.number (numbers (take (k + 1) targets))
-edges_more edges old from onto targets k inside at before =
-    let onto_them : List ℕ → List (ℕ × ℕ) = edges_onto from.number in
-    map_push edge_of edges (record { from = from; onto = onto })
-    ∙ ap (λ (xs : List (ℕ × ℕ)). xs ++ (from.number, onto.number) ∷ []) before
-    ∙ append_assoc old (onto_them (numbers (take k targets))) ((from.number, onto.number) ∷ [])
-    ∙ ap (λ (xs : List (ℕ × ℕ)). old ++ xs)
-    (sym (map_push (λ (n : ℕ). (from.number, n)) (numbers (take k targets)) onto.number)
-    ∙ ap onto_them (sym (numbers_more targets k onto inside at)))
 
 onto_there : (from : ℕ) (targets : List ℕ) (onto : ℕ) → Contains targets onto
     → Contains (edges_onto from targets) (from, onto)
@@ -74,15 +54,6 @@ not_before (y ∷ ys) (suc k) x different at there = elim (contains_cases y x (t
   | inl same ↦ different.0 (subst (λ (n : ℕ). Contains ys n) (sym same) (contains_from_get ys k x at))
   | inr behind ↦ not_before ys k x different.1 at behind
 ]
-
--- from no location, none
-pub none_back : (row : ℕ → List ℕ) (ranks places : List ℕ) (count : ℕ) → AreBack row ranks places count [] []
-none_back row ranks places count = record {
-  begins = λ from onto there. absurd (contains_none (from, onto) there);
-  only = λ from onto there. absurd (contains_none (from, onto) there);
-  all = λ from onto there is. absurd (contains_none from there);
-  apart = tt;
-}
 
 -- the edges from one more location
 pub back_more : (row : ℕ → List ℕ) (ranks places : List ℕ) (count : ℕ) (froms : List ℕ) (edges : List (ℕ × ℕ))

@@ -1,16 +1,15 @@
 -- Rows without the edges of some locations' edges: an order of them shows that these edges are enough, and
 -- a cycle that they aren't.
-use Rattle.std.proofs.Common.{◌≡◌, ℕ, suc, zero, ◌+◌, ◌<◌, Bool, true, false, eqb, List, [], ◌∷◌, ◌++◌, length, map}
+use Rattle.std.proofs.Common.{◌≡◌, ℕ, suc, zero, ◌+◌, ◌<◌, Bool, true, false, eqb, List, ◌∷◌, ◌++◌, length, map, []}
 use Rattle.std.proofs.Common.{take, refl}
 use Rattle.std.proofs.Common.{get_or, Option, Some, ap, sym, ◌∙◌, subst, inl, inr, ◌⊎◌, arith}
-use Rattle.std.specs.Prelude.{slice_get, slice_index, option_map, ◌&&◌, Contains, Vec}
+use Rattle.std.specs.Prelude.{slice_get, slice_index, ◌&&◌, Contains, Vec}
 use Rattle.std.specs.declared.alloc.Global.{Global}
 use Rattle.std.proofs.lemmas.Bool.{cases_lt}
 use Rattle.std.proofs.lemmas.Bool.Decides.{Decides-eqb, eqb_tells}
 use Rattle.std.proofs.lemmas.List.{map_more}
 use Rattle.std.proofs.lemmas.List.Elements.{Contains-append_left, Contains-push, Contains-push_cases}
 use Rattle.std.proofs.lemmas.Option.{get_or_from_slice_get, same_Some, slice_get_within}
-use Rattle.std.proofs.lemmas.Option.{slice_get-get_or, slice_get-map}
 use Rattle.drum_core.specs.declared.word.Word.{Word}
 use Rattle.drum_times.specs.declared.notes.edge.Edge.{Edge}
 use Rattle.drum_times.specs.Allowed.{Notes}
@@ -67,27 +66,6 @@ pub edges_taken : (edges : List Edge) (k : ℕ) (edge : Edge) → k < length edg
 edges_taken edges k edge inside at =
     map_more edge_of edges k edge inside
     ∙ ap (λ (one : Edge). map edge_of (take k edges) ++ edge_of one ∷ []) (sym at)
-
-pub edge_there : (edges : List Edge) (k : ℕ) (edge : Edge) → k < length edges → edge ≡ get_or edges k edge
-    → Contains (map edge_of edges) (edge_of edge)
-edge_there edges k edge inside at =
-    contains_from_get (map edge_of edges) k (edge_of edge)
-    (slice_get-map edge_of edges k ∙ ap (option_map edge_of) (slice_get-get_or edges k edge inside)
-    ∙ ap (λ (one : Edge). Some (edge_of one)) (sym at))
-
--- what is none of some, nor one more, is none of all
-pub none_more : (edges : List (ℕ × ℕ)) (one edge : ℕ × ℕ) → ¬ Contains edges edge → (edge ≡ one → ⊥)
-    → ¬ Contains (edges ++ one ∷ []) edge
-none_more edges one edge none other there =
-    elim (Contains-push_cases edges one edge there) [ inl was ↦ none was | inr same ↦ other (sym same) ]
-
--- of no row, none
-pub none_beside : (places : List ℕ) (edges : List (ℕ × ℕ)) (node : ℕ) → IsRowBeside places edges node [] []
-none_beside places edges node = record {
-  kept = λ next there. there;
-  none = λ next there. absurd (contains_none next there);
-  all = λ next there beside. there;
-}
 
 module _ (places : List ℕ) (edges : List (ℕ × ℕ)) (node : ℕ) (row rest : List ℕ) (next : ℕ)
     (before : IsRowBeside places edges node row rest) where

@@ -1,5 +1,5 @@
 -- Rows of the nodes that links lead to.
-use Rattle.std.proofs.Common.{◌≡◌, ℕ, ◌<◌, List, [], ◌∷◌, ◌++◌, length, Option, Some, ap, sym, ◌∙◌, subst, inl, inr, arith}
+use Rattle.std.proofs.Common.{◌≡◌, ℕ, ◌<◌, List, ◌∷◌, ◌++◌, length, Option, Some, ap, sym, ◌∙◌, subst, inl, inr, arith, []}
 use Rattle.std.specs.Prelude.{slice_get, Contains, Vec}
 use Rattle.std.specs.declared.alloc.Global.{Global}
 use Rattle.std.proofs.lemmas.List.Elements.{Contains-append_left, Contains-push, Contains-push_cases}
@@ -15,13 +15,6 @@ use Rattle.drum_flow.proofs.Links.{in_all, link_there, node_linked, of_all}
 use Rattle.drum_acceptance.proofs.FreeRows.{onward_place, some_at}
 use Rattle.drum_loops.specs.Links.{AreLinkRows, IsLinkRow, IsOnwardRow}
 use Rattle.drum_loops.proofs.Besides.{row_none}
-
--- to no target, none
-pub none_onward : (notes : Notes) (nodes : List Node) (from : Node) → IsOnwardRow notes nodes [] from []
-none_onward notes nodes from = record {
-  only = λ index there. absurd (contains_none index there);
-  all = λ index onto here target leads. absurd (contains_none onto.place target);
-}
 
 module _ (notes : Notes) (nodes : List Node) (targets : List ℕ) (from : Node) (row : List ℕ) (onto : ℕ)
     (before : IsOnwardRow notes nodes targets from row) where

@@ -1,5 +1,5 @@
 -- What leads where past a location, by indices, is so of the nodes at these indices.
-use Rattle.std.proofs.Common.{◌≡◌, ℕ, ◌<◌, List, [], ◌∷◌, length, map, Option, Some, refl, ap, sym, ◌∙◌, subst, inl, inr}
+use Rattle.std.proofs.Common.{◌≡◌, ℕ, ◌<◌, List, ◌∷◌, length, map, Option, Some, refl, ap, sym, ◌∙◌, subst, inl, inr, []}
 use Rattle.std.proofs.Common.{Bool, true, false, ◌⊎◌, arith}
 use Rattle.std.specs.Prelude.{slice_get, slice_index, ◌↔◌, IsTrue}
 use Rattle.std.proofs.lemmas.Option.{get_or_from_slice_get, same_Some, slice_get_within}
@@ -189,11 +189,4 @@ module _ (loads : ℕ → Option Word) (notes : Notes) (start : ℕ) (nodes : Li
             place_of at.0 nested.node at.1 ∙ nested.at,
             round_about outer inner at.0 nested.node at.1 nested.goes,
           ),
-    )
-
-    -- loops with one head don't stand one inside the other
-    pub same_heads : inner.1 ≡ outer.1 → IsTrue false ↔ IsNested loads notes start outer inner
-    same_heads same = (
-      λ yes. let clash : false ≡ true = yes in cc,
-      λ nested. absurd (nested.apart same),
     )

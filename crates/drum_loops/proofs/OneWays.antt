@@ -1,10 +1,9 @@
 -- Edges of locations that don't both go on and lead back.
-use Rattle.std.proofs.Common.{◌≡◌, ℕ, ◌+◌, ◌≤◌, List, [], ◌∷◌, ◌++◌, Some, ap, sym, ◌∙◌, subst, inl, inr, arith}
+use Rattle.std.proofs.Common.{◌≡◌, ℕ, ◌+◌, ◌≤◌, List, ◌∷◌, ◌++◌, Some, ap, sym, ◌∙◌, subst, inl, inr, arith, []}
 use Rattle.std.specs.Prelude.{slice_get, slice_index, false, is_some, Contains, IfNone, None, Option}
 use Rattle.std.proofs.lemmas.Bool.{cases_lt}
 use Rattle.std.proofs.lemmas.List.Elements.{Contains-push_cases}
 use Rattle.std.proofs.lemmas.Option.{same_Some}
-use Rattle.drum_order.proofs.Lists.{contains_none}
 use Rattle.drum_loops.specs.Closing.{AreTargets, IsBack}
 use Rattle.drum_loops.specs.Spared.{AreOneWay, IsAhead, IsOn}
 
@@ -22,10 +21,6 @@ pub absent_at : (found : Option ℕ) (targets : List ℕ) (place : ℕ) → is_s
     → IfNone found (¬ Contains targets place) → ¬ Contains targets place
 absent_at None targets place none absent = absent
 absent_at (Some index) targets place none absent = cc
-
--- of no row, none
-pub none_ahead : (ranks places : List ℕ) (node : ℕ) (targets : List ℕ) → NoneAhead [] ranks places node targets
-none_ahead ranks places node targets onto is there = contains_none is.next is.edge
 
 module _ (row ranks places : List ℕ) (node : ℕ) (targets : List ℕ) (next : ℕ)
     (before : NoneAhead row ranks places node targets) where
@@ -45,11 +40,6 @@ module _ (row ranks places : List ℕ) (node : ℕ) (targets : List ℕ) (next :
     | inr same ↦ absent (subst (λ (n : ℕ). Contains targets n)
         (same_Some onto place (sym is.ends ∙ ap (slice_get places) (sym same) ∙ at)) there)
   ]
-
--- of no node, none
-pub none_on : (row : ℕ → List ℕ) (ranks places : List ℕ) (from : ℕ) (targets : List ℕ)
-    → NoneOn row ranks places 0 from targets
-none_on row ranks places from targets onto is there = omega (arith, is.early)
 
 module _ (row : ℕ → List ℕ) (ranks places : List ℕ) (k from : ℕ) (targets : List ℕ)
     (before : NoneOn row ranks places k from targets) where
@@ -71,10 +61,6 @@ module _ (row : ℕ → List ℕ) (ranks places : List ℕ) (k from : ℕ) (targ
     | inr late ↦ (let same : is.node ≡ k = omega (arith, late, is.early) in
         none onto (subst (λ (n : ℕ). IsAhead (row n) ranks places n onto) same is.ahead) there)
   ]
-
--- from no location, none
-pub none_one_way : (row : ℕ → List ℕ) (ranks places : List ℕ) (count : ℕ) → AreOneWay row ranks places count []
-none_one_way row ranks places count from onto there = absurd (contains_none from there)
 
 -- one more location
 pub one_way_more : (row : ℕ → List ℕ) (ranks places : List ℕ) (count : ℕ) (froms : List ℕ) (from : ℕ)

@@ -1,6 +1,6 @@
 -- What is reached from a node past a location: members of a list, each of which in turn adds those
 -- that its edges lead to, but for nodes at that location.
-use Rattle.std.proofs.Common.{◌≡◌, ◌≢◌, ℕ, ◌+◌, ◌<◌, ◌≤◌, List, [], ◌∷◌, ◌++◌, length, Option, Some}
+use Rattle.std.proofs.Common.{◌≡◌, ◌≢◌, ℕ, ◌+◌, ◌<◌, ◌≤◌, List, ◌∷◌, ◌++◌, length, Option, Some, []}
 use Rattle.std.proofs.Common.{Bool, true, false, refl, ap, sym, ◌∙◌, subst, inl, inr, arith, cond, eqb}
 use Rattle.std.specs.Prelude.{slice_get, slice_index, Contains, filter, not}
 use Rattle.std.specs.List.{range_with_len}
@@ -72,17 +72,6 @@ pub record IsReaching (row : ℕ → List ℕ) (places : List ℕ) (avoided from
       → Contains members next
 
 module _ (row : ℕ → List ℕ) (places : List ℕ) (avoided from : ℕ) where
-  pub reaching_begun : (members : List ℕ) → members ≡ from ∷ [] → IsReaching row places avoided from 0 members
-  reaching_begun members is = subst (IsReaching row places avoided from 0) (sym is) (record {
-    begun = contains_here from [];
-    different = (contains_none from, tt);
-    reached = λ node there. elim (contains_cases from node [] there) [
-      | inl same ↦ ([], same)
-      | inr none ↦ absurd (contains_none node none)
-    ];
-    added = λ k node next low at edge. absurd (omega (arith, low));
-  })
-
   module _ (turn node : ℕ) (members : List ℕ) (before : IsReaching row places avoided from turn members)
       (at : slice_get members turn ≡ Some node) where
     abbrev nexts : List ℕ

@@ -1,5 +1,5 @@
 -- Edges are left out where the others are enough.
-use Rattle.std.proofs.Common.{◌≡◌, ℕ, List, [], ◌∷◌, ◌++◌, Option, sym, subst, inl, inr}
+use Rattle.std.proofs.Common.{◌≡◌, ℕ, List, ◌∷◌, ◌++◌, Option, sym, subst, inl, inr, []}
 use Rattle.std.specs.Prelude.{Contains}
 use Rattle.std.proofs.lemmas.List.Elements.{Contains-append_left, Contains-push, Contains-push_cases}
 use Rattle.drum_core.specs.declared.word.Word.{Word}
@@ -7,7 +7,7 @@ use Rattle.drum_times.specs.Allowed.{Notes}
 use Rattle.drum_order.specs.Graph.{LeadRound}
 use Rattle.drum_order.proofs.Lists.{contains_here, contains_there, contains_cases, contains_none}
 use Rattle.drum_flow.specs.Hops.{Node}
-use Rattle.drum_loops.specs.Loops.{AreApart, AreClosing, IsFreeBeside, IsFreeBut, IsNeeded}
+use Rattle.drum_loops.specs.Loops.{AreApart, IsFreeBeside, IsFreeBut, IsNeeded}
 use Rattle.drum_loops.specs.Spared.{AreEnough, LackSome, AreWithout, AreSpared}
 
 -- with one more at the end none is there twice, if it is new
@@ -34,16 +34,6 @@ apart_last (one ∷ edges) edge apart = (
     | inr behind ↦ (apart_last edges edge apart.1).1 behind
   ],
 )
-
--- of none, none
-pub none_without : (edge : ℕ × ℕ) → AreWithout [] edge []
-none_without edge =
-    record {
-      kept = λ other there. there;
-      gone = contains_none edge;
-      all = λ other there. inr there;
-      apart = λ apart. apart;
-    }
 
 module _ (edges : List (ℕ × ℕ)) (edge : ℕ × ℕ) (others : List (ℕ × ℕ)) (one : ℕ × ℕ)
     (before : AreWithout edges edge others) where
@@ -77,20 +67,6 @@ module _ (edges : List (ℕ × ℕ)) (edge : ℕ × ℕ) (others : List (ℕ × 
   }
 
 module _ (loads : ℕ → Option Word) (notes : Notes) (start : ℕ) where
-  -- at first all are left to be tried
-  pub spared_begun : (edges : List (ℕ × ℕ)) → AreEnough loads notes start edges → AreApart edges
-      → AreSpared loads notes start edges edges
-  spared_begun edges enough apart = record { enough = enough; apart = apart; needed = λ edge there. inl there }
-
-  -- at last none is
-  pub spared_done : (edges : List (ℕ × ℕ)) → AreSpared loads notes start [] edges → AreClosing loads notes start edges
-  spared_done edges spared = record {
-    needed = λ edge there. elim (spared.needed edge there)
-        [ inl none ↦ absurd (contains_none edge none) | inr is ↦ is ];
-    enough = spared.enough;
-    apart = spared.apart;
-  }
-
   -- what is needed among some edges is needed among fewer
   round_fewer : (edges others : List (ℕ × ℕ)) (edge : ℕ × ℕ)
       → ((other : ℕ × ℕ) → Contains others other → Contains edges other) → (first node : Node) (nodes : List Node)

@@ -1,5 +1,5 @@
 -- One of many with a property, as a loop over them looks for it.
-use Rattle.std.proofs.Common.{◌≡◌, ◌≢◌, ℕ, ◌+◌, ◌<◌, ◌≤◌, Bool, eqb, true, false, List, [], length, take, slice_index_or}
+use Rattle.std.proofs.Common.{◌≡◌, ◌≢◌, ℕ, ◌+◌, ◌<◌, ◌≤◌, Bool, eqb, true, false, List, length, take, slice_index_or}
 use Rattle.std.proofs.Common.{refl, sym, ◌∙◌, subst, inl, inr, ◌⊎◌}
 use Rattle.std.specs.Prelude.{slice_index, Contains, IsTrue, not, ◌↔◌}
 use Rattle.std.proofs.lemmas.Bool.Decides.{Decides-eqb}
@@ -7,7 +7,6 @@ use Rattle.std.proofs.lemmas.List.{take_all, take_more}
 use Rattle.std.proofs.lemmas.List.Elements.{Contains-get_or, Contains-push_cases}
 use Rattle.std.specs.Prelude.{slice_get, Some}
 use Rattle.std.proofs.lemmas.Option.{get_or_from_slice_get}
-use Rattle.drum_order.proofs.Lists.{contains_none}
 use Rattle.drum_flow.specs.declared.flow_graph.Flow.{Flow}
 use Rattle.drum_flow.specs.Flow.{nodes_of}
 use Rattle.drum_flow.specs.Hops.{Node}
@@ -22,10 +21,6 @@ place_told flow k number at =
     get_or_from_slice_get (places_in flow) k at.0.place 0 (place_at (nodes_of flow) k at.0 at.1) ∙ sym at.2
 
 module _ (IsSuch : ℕ → Type 0) (nodes : List ℕ) where
-  -- of none, none
-  pub such_none : ¬ HasSuch IsSuch []
-  such_none has = contains_none has.0 has.1
-
   -- of one more, which hasn't the property, none
   pub such_more : (k : ℕ) → k < length nodes → ¬ HasSuch IsSuch (take k nodes) → ¬ IsSuch (slice_index_or nodes k 0)
       → ¬ HasSuch IsSuch (take (k + 1) nodes)
@@ -67,9 +62,6 @@ both_so answer First Second first is = (λ yes. (first, is.0 yes), λ both. is.1
 pub neither_so : (a b : ℕ) (First Second : Type 0) → a ≢ b → ¬ First → (IsTrue (eqb a b) ↔ (First × Second))
 neither_so a b First Second other not =
     (λ yes. absurd (other ((Decides-eqb a b).0 yes)), λ both. absurd (not both.0))
-
-pub neither_told : (First Second : Type 0) → ¬ First → (IsTrue false ↔ (First × Second))
-neither_told First Second not = (λ yes. let clash : false ≡ true = yes in cc, λ both. absurd (not both.0))
 
 -- an answer that is no says that it isn't so
 pub denied : (answer : Bool) (Said : Type 0) → answer ≡ false → (IsTrue answer ↔ Said) → ¬ Said

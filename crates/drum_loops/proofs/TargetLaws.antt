@@ -1,5 +1,5 @@
 -- The locations that edges lead back to.
-use Rattle.std.proofs.Common.{◌≡◌, ℕ, ◌+◌, ◌<◌, ◌≤◌, List, [], ◌∷◌, ◌++◌, Some, ap, sym, ◌∙◌, subst, inl, inr, ◌⊎◌}
+use Rattle.std.proofs.Common.{◌≡◌, ℕ, ◌+◌, ◌<◌, ◌≤◌, List, ◌∷◌, ◌++◌, Some, ap, sym, ◌∙◌, subst, inl, inr, ◌⊎◌, []}
 use Rattle.std.proofs.Common.{arith, length, slice_index_or}
 use Rattle.std.specs.Prelude.{slice_get, slice_index, Contains}
 use Rattle.std.proofs.lemmas.Bool.{cases_lt}
@@ -19,14 +19,6 @@ pub row_inside : (graph : Graph) (node k : ℕ) (items : List ℕ) → items ≡
 row_inside graph node k items is below =
     graph.within node (slice_index_or items k 0)
     (subst (λ (nodes : List ℕ). Contains nodes (slice_index_or items k 0)) is (Contains-get_or items k 0 below))
-
--- of no node, none
-pub none_added : (ranks places : List ℕ) (node : ℕ) (before : List ℕ) → AreAdded [] ranks places node before before
-none_added ranks places node before = record {
-  kept = λ onto there. there;
-  all = λ onto is. absurd (contains_none is.next is.edge);
-  only = λ onto there. inl there;
-}
 
 module _ (row ranks places : List ℕ) (node : ℕ) (before after : List ℕ) (next : ℕ)
     (added : AreAdded row ranks places node before after) where
@@ -83,13 +75,6 @@ module _ (row ranks places : List ℕ) (node : ℕ) (before after : List ℕ) (n
       ])
     ];
   }
-
--- from no node, to none
-pub none_targets : (row : ℕ → List ℕ) (ranks places : List ℕ) (from : ℕ) → AreTargets row ranks places 0 from []
-none_targets row ranks places from = record {
-  only = λ onto there. absurd (contains_none onto there);
-  all = λ onto is. absurd (omega (arith, is.early));
-}
 
 module _ (row : ℕ → List ℕ) (ranks places : List ℕ) (k from : ℕ) (targets : List ℕ)
     (before : AreTargets row ranks places k from targets) where

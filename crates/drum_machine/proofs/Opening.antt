@@ -1,11 +1,11 @@
 -- Calls in a row: what is open at their exits, one call at a time.
-use Rattle.std.specs.Prelude.{slice_set, take, drop, map, ◌==◌, if◌then◌else◌}
+use Rattle.std.specs.Prelude.{slice_set, take, drop, map}
 use Rattle.std.proofs.lemmas.Grind.{common_steps}
-use Rattle.std.proofs.Common.{get_or, ◌≡◌, ℕ, zero, suc, ◌+◌, ◌≤◌, ◌<◌, List, [], ◌∷◌, ◌++◌, length, replicate}
+use Rattle.std.proofs.Common.{get_or, ◌≡◌, ℕ, zero, suc, ◌+◌, ◌≤◌, ◌<◌, List, ◌∷◌, ◌++◌, length, replicate, []}
 use Rattle.std.proofs.Common.{Option, Some, None, refl, subst, sym, ap, ◌∙◌, append_assoc, length-set, arith}
 use Rattle.drum_core.specs.declared.location.Location.{Location}
 use Rattle.drum_times.specs.declared.notes.call.Call.{Call}
-use Rattle.drum_machine.specs.Calls.{none_open, opened, way_behind, opened_by, MayGo}
+use Rattle.drum_machine.specs.Calls.{none_open, opened, way_behind, MayGo}
 use Rattle.drum_machine.specs.OpenIn.{number_of}
 use Rattle.drum_machine.specs.Since.{Edge}
 
@@ -15,14 +15,6 @@ pub none_yet : (calls : List Call) (most : ℕ) → length calls ≤ most
 none_yet [] most few = refl
 none_yet (call ∷ calls) zero few = absurd (omega arith)
 none_yet (call ∷ calls) (suc most) few = ap (λ (ways : List (Option ℕ)). None ∷ ways) (none_yet calls most (omega arith))
-
--- what is open behind a step, by what the step opens
-pub behind_by : (calls : List Call) (edge : Edge) (exit : ℕ) (way one : Option ℕ) → one ≡ opened_by calls edge exit
-    → way_behind calls edge exit way
-    ≡ (elim one as (λ _. Option ℕ) [ None ↦ if exit == edge.from then None else way | Some back ↦ Some back ])
-behind_by calls edge exit way one is =
-    ap (λ (o : Option ℕ). elim o as (λ _. Option ℕ)
-    [ None ↦ if exit == edge.from then None else way | Some back ↦ Some back ]) (sym is)
 
 abbrev Held : Type 0
 Held = List (Option Location)

@@ -1,5 +1,5 @@
 -- Flags that are set one after the other, and how many are set.
-use Rattle.std.proofs.Common.{◌≡◌, ℕ, zero, suc, ◌+◌, ◌<◌, ◌≤◌, Bool, List, [], ◌∷◌, ◌++◌, length, get_or, take, drop, map, arith}
+use Rattle.std.proofs.Common.{◌≡◌, ℕ, zero, suc, ◌+◌, ◌<◌, ◌≤◌, Bool, List, ◌∷◌, ◌++◌, length, get_or, take, drop, map, arith, []}
 use Rattle.std.proofs.Common.{refl, ap, sym, ◌∙◌}
 use Rattle.std.specs.Prelude.{slice_set, fold, cond, count_by, replicate, false}
 
@@ -18,16 +18,6 @@ module _ {X Y : Type 0} (f g : X → Y) where
       ap (λ (ys : List Y). g x ∷ ys) (mixed_set i xs d (omega (arith, inside)))
       ∙ ap (λ (n : ℕ). mixed n (x ∷ xs)) more
 
-  -- or where both give the same there
-  pub mixed_same : (i : ℕ) (xs : List X) (d : X) → i < length xs → f (get_or xs i d) ≡ g (get_or xs i d)
-      → mixed i xs ≡ mixed (i + 1) xs
-  mixed_same i [] d inside same = absurd (omega (arith, inside))
-  mixed_same zero (x ∷ xs) d inside same = ap (λ (y : Y). y ∷ map f xs) same
-  mixed_same (suc i) (x ∷ xs) d inside same =
-      let more : suc (i + 1) ≡ suc i + 1 = omega arith in
-      ap (λ (ys : List Y). g x ∷ ys) (mixed_same i xs d (omega (arith, inside)) same)
-      ∙ ap (λ (n : ℕ). mixed n (x ∷ xs)) more
-
   -- at the end it is what the one gives
   pub mixed_all : (i : ℕ) (xs : List X) → length xs ≤ i → mixed i xs ≡ map g xs
   mixed_all zero [] whole = refl
@@ -40,12 +30,6 @@ module _ {X Y : Type 0} (f g : X → Y) where
   mixed_at i [] d e inside = absurd (omega (arith, inside))
   mixed_at zero (x ∷ xs) d e inside = refl
   mixed_at (suc i) (x ∷ xs) d e inside = mixed_at i xs d e (omega (arith, inside))
-
-  pub length_mixed : (i : ℕ) (xs : List X) → length (mixed i xs) ≡ length xs
-  length_mixed zero [] = refl
-  length_mixed (suc i) [] = refl
-  length_mixed zero (x ∷ xs) = ap suc (length_mixed zero xs)
-  length_mixed (suc i) (x ∷ xs) = ap suc (length_mixed i xs)
 
   -- So it is one place further on, where what was held there is replaced by what the one gives.
   pub held_at : (i : ℕ) (xs : List X) (ys : List Y) (x : X) (held : Y) → i < length xs → x ≡ get_or xs i x

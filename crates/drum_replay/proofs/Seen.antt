@@ -1,5 +1,5 @@
 -- What a coverage has seen, one stride later.
-use Rattle.std.proofs.Common.{◌≡◌, ℕ, zero, suc, ◌<◌, ◌≤◌, Bool, true, false, List, [], ◌∷◌, ◌++◌, length, take, map, arith, inl, inr}
+use Rattle.std.proofs.Common.{◌≡◌, ℕ, zero, suc, ◌<◌, ◌≤◌, Bool, true, false, List, ◌∷◌, ◌++◌, length, take, map, arith, inl, inr, []}
 use Rattle.std.proofs.Common.{refl, ap, sym, subst, ◌∙◌, max}
 use Rattle.std.specs.Prelude.{◌==◌, ◌&&◌, ◌||◌, slice_index, IsTrue, ◌↔◌, Option}
 use Rattle.std.specs.Bool.{one_answer}
@@ -164,11 +164,6 @@ flags_same : (f g : Listed → Pattern → Bool) (lists : List Listed)
 flags_same f g lists same =
     map_same (λ list. map (f list) list.patterns) (λ list. map (g list) list.patterns) lists
     (λ list. map_same (f list) (g list) list.patterns (same list))
-
-pub seen_size : (notes : Notes) (strides : List Stride) (coverage : Coverage) → HasSeen notes strides coverage
-    → length coverage.met.items ≡ length notes.lists
-seen_size notes strides coverage seen =
-    ap length seen.met ∙ length-map notes.lists (λ list. map (is_met strides list.location) list.patterns)
 
 -- ---- one stride more
 

@@ -1,17 +1,11 @@
 -- The lines of a run's steps, and the verdict behind them.
-use Rattle.std.proofs.Common.{◌≡◌, ℕ, suc, ◌+◌, ◌-◌, Bool, true, false, not, List, [], ◌∷◌, ◌++◌, length, take, ap, sym, ◌<◌}
-use Rattle.std.proofs.Common.{subst, ◌∙◌, arith, append_assoc, append-nil, length-append, inl, inr, Option, Some, None}
-use Rattle.std.proofs.Common.{Result, Ok, Err}
-use Rattle.std.proofs.Common.{refl}
-use Rattle.std.proofs.lemmas.List.{take-append-le}
-use Rattle.std.specs.Prelude.{MatchOption, OnSome, if◌then◌else◌}
-use Rattle.std.specs.Io.KnownBytes.{Appends}
+use Rattle.std.proofs.Common.{◌≡◌, ℕ, suc, ◌+◌, ◌-◌, Bool, true, false, not, List, ◌∷◌, ◌++◌, length, ap, sym, []}
+use Rattle.std.proofs.Common.{◌∙◌, arith, append_assoc, append-nil, Option, Some, None}
+use Rattle.std.specs.Prelude.{MatchOption, if◌then◌else◌}
 use Rattle.drum_core.specs.declared.op.Op.{Op}
 use Rattle.drum_core.specs.Location.{is_location}
 use Rattle.drum_core.specs.Op.{op_of, operand_of, is_operand}
-use Rattle.drum_devices.proofs.Bytes.{Appends-then, take_behind}
 use Rattle.drum_times.specs.declared.entry.Entry.{Entry}
-use Rattle.drum_times.specs.Allowed.{Notes}
 use Rattle.drum_machine.specs.Run.{Stride}
 use Rattle.drum_machine.specs.Step.{State, Stepped, on, stopped, clock_of, instruction_in, lacks_card, stepped_by, step}
 use Rattle.drum_machine.specs.Step.{step_with}
@@ -21,15 +15,9 @@ use Rattle.drum_machine.specs.Timing.{ended, ready, units_of}
 use Rattle.drum_machine.specs.declared.verdict.Verdict.{Verdict}
 use Rattle.drum_emulator.specs.Fed.{op_in, waits_with}
 use Rattle.drum_flow.specs.Walk.{Setting}
-use Rattle.drum_lines.specs.declared.status.Status.{Status}
-use Rattle.drum_lines.specs.declared.status.Status.TheVariants.{Failed}
-use Rattle.drum_devices.specs.Device.{Device, one_more}
-use Rattle.drum_lines.specs.Output.{GetsResult}
-use Rattle.drum_sheet.specs.Gets.{GetsAll}
 use Rattle.drum_hop_lines.specs.TraceText.{stride_line, stride_lines}
 use Rattle.drum_replay.specs.declared.replaying.Begun.{Begun}
 use Rattle.drum_replay.specs.Begun.{IsBegun}
-use Rattle.drum_replay.specs.Coverage.{comes_at_once, coverage_lines, coverage_text}
 use Rattle.drum_replay.specs.Following.{Goes, IsFollowed, Lead, state_of, waits_of}
 use Rattle.drum_replay.specs.Replay.{Given, IsTraced}
 use Rattle.drum_replay.proofs.Beginning.{judged_before, judged_followed}
@@ -131,16 +119,3 @@ pub either_map : {A : Type 0} {N N' : Type 0} {P P' : A → Type 0} (result : Op
     → (N → N') → ((a : A) → P a → P' a) → MatchOption result N' P'
 either_map None p f h = f p
 either_map (Some a) p f h = h a p
-
-pub some_map : {A : Type 0} {P P' : Type 0} (result : Option A) → OnSome result P → (P → P') → OnSome result P'
-some_map None p f = tt
-some_map (Some a) p f = f p
-
--- what is told of the notes: nothing before any step
-pub none_told : (notes : Notes) (strides : List Stride) (verdict : Verdict) → comes_at_once verdict ≡ true
-    → coverage_lines notes strides verdict ≡ []
-none_told notes strides verdict is = ap (λ (b : Bool). if b then [] else coverage_text notes strides) is
-
-pub all_told : (notes : Notes) (strides : List Stride) (verdict : Verdict) → comes_at_once verdict ≡ false
-    → coverage_lines notes strides verdict ≡ coverage_text notes strides
-all_told notes strides verdict is = ap (λ (b : Bool). if b then [] else coverage_text notes strides) is

@@ -1,5 +1,5 @@
 -- How often pieces come, from the last one down.
-use Rattle.std.proofs.Common.{◌≡◌, ◌≢◌, ℕ, zero, suc, ◌+◌, ◌*◌, ◌<◌, ◌≤◌, List, [], ◌∷◌, length, take, drop}
+use Rattle.std.proofs.Common.{◌≡◌, ◌≢◌, ℕ, zero, suc, ◌+◌, ◌*◌, ◌<◌, ◌≤◌, List, ◌∷◌, length, take, drop, []}
 use Rattle.std.proofs.Common.{set, get_or, refl, ap, sym, ◌∙◌, arith, inl, inr}
 use Rattle.std.specs.Prelude.{flat_map, replicate, sum_by}
 use Rattle.std.proofs.Math.Nat.{add-mul, mul-add, mul-zero, suc-mul, zero-mul}
@@ -77,14 +77,6 @@ module _ (of_piece : ℕ → ℕ) where
       )
 
 -- ---- shares
-
-pub none_shared : (limit : ℕ) (often : List ℕ) (more : (ℕ → ℕ) → ℕ) → ((of_piece : ℕ → ℕ) → more of_piece ≡ 0)
-    → HasShared limit often often more
-none_shared limit often more none = record {
-  each = refl;
-  others = refl;
-  owed = λ of_piece. omega (arith, none of_piece);
-}
 
 pub one_shared : (limit : ℕ) (often : List ℕ) (at more value : ℕ) → at < limit → limit < length often
     → value ≡ get_or often at 0 + more

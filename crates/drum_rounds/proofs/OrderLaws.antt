@@ -1,29 +1,13 @@
 -- Pieces that are gone through in order.
-use Rattle.std.proofs.Common.{◌≡◌, ℕ, zero, suc, ◌+◌, ◌-◌, ◌<◌, ◌≤◌, Bool, List, [], ◌∷◌, ◌++◌}
+use Rattle.std.proofs.Common.{◌≡◌, ℕ, zero, suc, ◌+◌, ◌-◌, ◌<◌, Bool, List, ◌∷◌, ◌++◌, []}
 use Rattle.std.proofs.Common.{length, take, get_or, refl, ap, sym, ◌∙◌, subst, arith, Option, Some, None, inl, inr}
 use Rattle.std.specs.Prelude.{if◌then◌else◌, slice_get, unwrap_or}
-use Rattle.std.proofs.lemmas.Bool.{cases_lt, eq-eqb, le-ltb, lt-ltb}
+use Rattle.std.proofs.lemmas.Bool.{cases_lt, eq-eqb}
 use Rattle.std.proofs.lemmas.List.{length-append, take_more}
 use Rattle.drum_walks.specs.declared.piece.Piece.{Piece}
 use Rattle.drum_rounds.specs.Order.{closing, never, on_from, through_at, through_behind, through_by, through_row}
-use Rattle.drum_rounds.specs.Order.{AreInOrder, Through}
-use Rattle.drum_rounds.specs.OrderOf.{first_in, AreAllThrough, AreThrough}
-
--- through a piece that was gone through, and through one that is the next
-pub at_passed : (before : List Through) (number ended : ℕ) → number < ended
-    → through_at before number ended ≡ Some ended
-at_passed before number ended less =
-    ap (λ (b : Bool). if b then Some ended else unwrap_or (slice_get before number) never ended)
-    (lt-ltb number ended less)
-
-pub at_next : (firsts : List ℕ) (limit : ℕ) (before : List Through) (number ended : ℕ)
-    → AreThrough firsts limit before → ended ≤ number → number < limit → first_in firsts number ≡ ended
-    → through_at before number ended ≡ Some (number + 1)
-at_next firsts limit before number ended are low less first =
-    let more : suc number ≡ number + 1 = omega arith in
-    ap (λ (b : Bool). if b then Some ended else unwrap_or (slice_get before number) never ended)
-    (le-ltb number ended low)
-    ∙ ap (unwrap_or (slice_get before number) never) (sym first) ∙ are.next number less ∙ ap Some more
+use Rattle.drum_rounds.specs.Order.{Through}
+use Rattle.drum_rounds.specs.OrderOf.{first_in, AreThrough}
 
 on_last : (o : Option ℕ) → on_from o Some ≡ o
 on_last None = refl
@@ -88,9 +72,6 @@ push_through firsts limit before piece are by = record {
   ];
 }
 
-pub none_through : (firsts : List ℕ) → AreThrough firsts 0 []
-none_through firsts = record { each = refl; next = λ number less. absurd (omega (arith, less)) }
-
 pub through_more : (firsts : List ℕ) (pieces : List Piece) (k : ℕ) (piece : Piece) → k < length pieces
     → piece ≡ get_or pieces k piece → AreThrough firsts k (through_behind [] (take k pieces))
     → through_by (through_behind [] (take k pieces)) piece (first_in firsts k) ≡ Some k
@@ -101,13 +82,3 @@ through_more firsts pieces k piece less is are by =
     let all = ap (through_behind []) more ∙ throughs_more [] (take k pieces) piece in
     subst (λ (ts : List Through). AreThrough firsts (k + 1) ts) (sym all)
     (push_through firsts k (through_behind [] (take k pieces)) piece are by)
-
--- Where the last begins before all others, all are in order.
-pub whole_in_order : (firsts : List ℕ) (pieces : List Piece) (last : ℕ) → suc last ≡ length pieces
-    → first_in firsts last ≡ 0 → AreAllThrough firsts pieces → AreInOrder pieces
-whole_in_order firsts pieces last long first are =
-    let at : length pieces - 1 ≡ last = omega (arith, long) in
-    let sum : last + 1 ≡ length pieces = omega (arith, long) in
-    ap (λ (n : ℕ). through_at (through_behind [] pieces) n 0) at
-    ∙ at_next firsts (length pieces) (through_behind [] pieces) last 0 are (omega arith) (omega (arith, long)) first
-    ∙ ap Some sum

@@ -1,5 +1,5 @@
 -- What the pieces come to, one after the other, and the last as a walk.
-use Rattle.std.proofs.Common.{◌≡◌, ℕ, zero, suc, ◌+◌, ◌-◌, ◌<◌, ◌≤◌, ◌%◌, List, [], ◌∷◌, ◌++◌, length, take, map, get_or}
+use Rattle.std.proofs.Common.{◌≡◌, ℕ, zero, suc, ◌+◌, ◌-◌, ◌<◌, ◌≤◌, ◌%◌, List, ◌∷◌, ◌++◌, length, take, map, get_or, []}
 use Rattle.std.proofs.Common.{refl, ap, sym, ◌∙◌, subst, arith, Option, Some, None, inl, inr}
 use Rattle.std.specs.Prelude.{slice_get, slice_index, sum_by}
 use Rattle.std.proofs.lemmas.Bool.{cases_lt}
@@ -18,9 +18,6 @@ use Rattle.drum_rounds.specs.Order.{AreInOrder}
 use Rattle.drum_rounds.specs.Stretch.{edges_placed, laid, span_of, AreStretches, ComeTo, GoOn, IsFromStart}
 use Rattle.drum_rounds.proofs.LaidLaws.{edges_laid, longest_laid}
 use Rattle.drum_rounds.proofs.SpelledLaws.{behind_more, long_behind, spelled_before, spelled_last}
-
-pub no_stretches : (g : Setting) → AreStretches g [] []
-no_stretches g = record { each = refl; come = λ number stretch at. cc }
 
 -- what stands in a list with one more at its end
 at_push : {X : Type 0} (xs : List X) (y x : X) (k : ℕ) → slice_get (xs ++ y ∷ []) k ≡ Some x

@@ -1,7 +1,7 @@
 -- Sites as keys of a set: the test of two is that they are one.
-use Rattle.std.proofs.Common.{◌≡◌, ℕ, Bool, true, false, eqb, List, [], ◌∷◌, ◌++◌, get_or, Option, Some, None}
+use Rattle.std.proofs.Common.{◌≡◌, ℕ, Bool, true, false, eqb, List, ◌∷◌, ◌++◌, get_or, Option, Some, None, []}
 use Rattle.std.proofs.Common.{refl, ap, sym, ◌∙◌, subst, inl, inr, ◌⊎◌}
-use Rattle.std.specs.Prelude.{position, slice_get, Contains, Decides, if◌then◌else◌, IfNone, IfSome, is_some}
+use Rattle.std.specs.Prelude.{position, slice_get, Contains, Decides, if◌then◌else◌, IfSome}
 use Rattle.std.specs.List.{list_any, AllByRecursion, IsDistinct}
 use Rattle.std.proofs.lemmas.Bool.Decides.{Decides-eqb, Decides-and, Decides-like}
 use Rattle.std.proofs.lemmas.List.Elements.{Contains-append_left, Contains-push, Contains-push_cases}
@@ -34,28 +34,12 @@ any_there k (x ∷ sites) is = go (site_keys.TheImpl.ghosts.eq k x) refl (any_th
     go true e others = subst (λ (s : Site). Contains (x ∷ sites) s) (sym ((site_law k x).0 e)) (contains_here x sites)
     go false e others = contains_there x k sites (others (rw e at is))
 
-there_any : (k : Site) (sites : List Site) → Contains sites k → list_any (site_keys.TheImpl.ghosts.eq k) sites ≡ true
-there_any k [] there = absurd (contains_none k there)
-there_any k (x ∷ sites) there = go (site_keys.TheImpl.ghosts.eq k x) refl (there_any k sites)
-  where
-    go : (b : Bool) → site_keys.TheImpl.ghosts.eq k x ≡ b
-        → (Contains sites k → list_any (site_keys.TheImpl.ghosts.eq k) sites ≡ true)
-        → list_any (site_keys.TheImpl.ghosts.eq k) (x ∷ sites) ≡ true
-    go true e others = rw e refl
-    go false e others = elim (contains_cases x k sites there) [
-      | inl same ↦ (let clash : ◌≡◌ {A = Bool} true false = sym ((site_law k x).1 (sym same)) ∙ e in cc)
-      | inr behind ↦ rw e (others behind)
-    ]
-
 -- the number of a site that is there
 pub key_found : (sites : List Site) (k : Site) (number : ℕ) → position (site_keys.TheImpl.ghosts.eq k) sites ≡ Some number
     → slice_get sites number ≡ Some k
 key_found sites k number e =
     let found = position-Some (site_keys.TheImpl.ghosts.eq k) sites number k e in
     slice_get-get_or sites number k found.0 ∙ ap Some (sym ((site_law k (get_or sites number k)).0 found.1))
-
-pub key_absent : (sites : List Site) (k : Site) → list_any (site_keys.TheImpl.ghosts.eq k) sites ≡ false → ¬ Contains sites k
-key_absent sites k none there = let clash : ◌≡◌ {A = Bool} true false = sym (there_any k sites there) ∙ none in cc
 
 -- none of them is there twice
 pub keys_different : (sites : List Site) → IsDistinct site_keys.TheImpl.ghosts.eq sites → AreDifferent sites
@@ -101,7 +85,3 @@ module _ (sites : List Site) (k : Site) where
 pub if_some : (found : Option ℕ) (P : ℕ → Type 0) → ((k : ℕ) → found ≡ Some k → P k) → IfSome found P
 if_some None P all = tt
 if_some (Some k) P all = all k refl
-
-pub if_none : (found : Option ℕ) (P : Type 0) → (is_some found ≡ false → P) → IfNone found P
-if_none None P all = all refl
-if_none (Some k) P all = tt

@@ -1,5 +1,5 @@
 -- The faults that are added of a value at a key.
-use Rattle.std.proofs.Common.{◌≡◌, ℕ, zero, suc, ◌<◌, Bool, true, false, ◌||◌, cond, List, [], ◌∷◌, ◌++◌, map}
+use Rattle.std.proofs.Common.{◌≡◌, ℕ, zero, suc, ◌<◌, Bool, true, false, ◌||◌, cond, List, ◌∷◌, ◌++◌, map, []}
 use Rattle.std.proofs.Common.{length, get_or, Option, Some, None, Bor, refl, ap, sym, ◌∙◌, subst, arith}
 use Rattle.std.proofs.lemmas.List.{length-map}
 use Rattle.std.proofs.lemmas.Map.Text.{is_eq-slice_cmp}
@@ -12,14 +12,14 @@ use Rattle.drum_times.specs.declared.fault.NoteFault.{NoteFault}
 use Rattle.drum_toml.specs.declared.times.read_entry.Form.{Form}
 use Rattle.drum_toml.specs.AllFaults.{Adds}
 use Rattle.drum_toml.specs.Document.{location_of, location_in, locations_at}
-use Rattle.drum_toml.specs.Document.{Fault, kind, missing, range, unknown_in, missing_in, at_key, array_faults}
+use Rattle.drum_toml.specs.Document.{Fault, kind, missing, range, unknown_in, missing_in, at_key}
 use Rattle.drum_toml.specs.Document.{number_faults, is_one_of, text}
 use Rattle.drum_toml.specs.TimesDocument.{keys_of, form_of, entry_faults, plain_faults, rest_faults}
 use Rattle.drum_toml.specs.TimesDocument.{operations_faults, times_faults}
 use Rattle.drum_toml.specs.Value.{fault_of, StandsFor}
 use Rattle.drum_toml.proofs.Adding.{adds_more}
 use Rattle.drum_toml.proofs.EntryFaults.{text_is_right}
-use Rattle.toml.specs.Data.{Data, string, integer, float, boolean, datetime, array, table, as_array, as_table}
+use Rattle.toml.specs.Data.{Data, string, integer, float, boolean, datetime, array, table, as_table}
 use Rattle.toml.specs.Data.{Members, get_member, same_key}
 
 -- none without the key
@@ -33,16 +33,6 @@ pub key_some : (check : List ℕ → Data → List Fault) (at key : List ℕ) (f
     → Some d ≡ get_member key fields → at_key check at key fields ≡ check (at ++ key) d
 key_some check at key fields d has =
     ap (λ (found : Option Data). elim found [ None ↦ [] | Some value ↦ check (at ++ key) value ]) (sym has)
-
-pub not_array : (low : ℕ) (high : Option ℕ) (check : ℕ → List ℕ → Members → List Fault) (path : List ℕ) (d : Data)
-    → None ≡ as_array d → array_faults low high check path d ≡ kind path ∷ []
-not_array low high check path (string s) is = refl
-not_array low high check path (integer z) is = refl
-not_array low high check path (float x) is = refl
-not_array low high check path (boolean b) is = refl
-not_array low high check path (datetime dt) is = refl
-not_array low high check path (array items) is = cc
-not_array low high check path (table fields) is = refl
 
 pub table_from : (d : Data) (fields : Members) → Some fields ≡ as_table d → d ≡ table fields
 table_from (string s) fields e = cc

@@ -1,6 +1,6 @@
 -- Faults that are added one behind the other.
-use Rattle.std.proofs.Common.{◌≡◌, List, [], ◌∷◌, ◌++◌, length, refl, ap, sym, ◌∙◌, subst, arith}
-use Rattle.std.proofs.lemmas.List.{append-nil, append_assoc, length-append}
+use Rattle.std.proofs.Common.{◌≡◌, List, ◌∷◌, ◌++◌, length, refl, ap, sym, ◌∙◌, subst, []}
+use Rattle.std.proofs.lemmas.List.{append-nil, append_assoc}
 use Rattle.drum_times.specs.declared.fault.NoteFault.{NoteFault}
 use Rattle.drum_times.specs.declared.fault.NoteFault.TheVariants.{Toml, Memory, Missing, Unknown, Range, Kind, TwoMarks}
 use Rattle.drum_times.specs.declared.fault.NoteFault.TheVariants.{TwoLists}
@@ -54,12 +54,6 @@ one_step old now next left faults others whole so_far steps adds = record {
       ∙ sym (append_assoc so_far.done faults others);
 }
 
-pub finished : (old now : List NoteFault) (left whole : List Fault) → Left old now left whole → left ≡ []
-    → Adds old now whole
-finished old now left whole so_far nothing =
-    adds_same old now so_far.done whole
-    (sym (so_far.split ∙ ap (λ (xs : List Fault). so_far.done ++ xs) nothing ∙ append-nil so_far.done)) so_far.adds
-
 pub begun_at : (old : List NoteFault) (left whole : List Fault) → left ≡ whole → Left old old left whole
 begun_at old left whole same = record { done = []; adds = adds_none old; split = sym same }
 
@@ -98,16 +92,6 @@ pub none_added : (old new : List NoteFault) (faults : List Fault) → old ≡ []
 none_added old new faults empty is adds =
     none_of faults
     (subst (λ (told : List NoteFault). TellEach told faults) (told_all old new adds.told empty adds.is ∙ is) adds.tell)
-
--- as many as before are none more, and others than as many are some more
-pub none_more : (old new : List NoteFault) (faults : List Fault) → length new ≡ length old → Adds old new faults
-    → faults ≡ []
-none_more old new faults same adds = go adds.told faults adds.tell
-    (omega (arith, same, ap (λ (xs : List NoteFault). length xs) adds.is, length-append old adds.told))
-  where
-    go : (told : List NoteFault) (faults : List Fault) → TellEach told faults → length told ≡ 0 → faults ≡ []
-    go [] faults each none = none_of faults each
-    go (one ∷ told) faults each none = absurd (omega (arith, none))
 
 pub some_more : (old new : List NoteFault) (faults : List Fault) → (length new ≡ length old → ⊥) → Adds old new faults
     → faults ≡ [] → ⊥

@@ -1,5 +1,5 @@
 -- The first of all faults is that for which bytes are refused; where there are none, they are read.
-use Rattle.std.proofs.Common.{◌≡◌, ℕ, ◌+◌, Bool, true, false, cond, List, [], ◌∷◌, ◌++◌, map, Option, Some}
+use Rattle.std.proofs.Common.{◌≡◌, ℕ, ◌+◌, Bool, true, false, cond, List, ◌∷◌, ◌++◌, map, Option, Some, []}
 use Rattle.std.proofs.Common.{None, refl, ap, sym, ◌∙◌, subst, inl, inr}
 use Rattle.std.proofs.lemmas.List.{append_assoc}
 use Rattle.std.specs.Prelude.{codes, decimal, flat_map}
@@ -59,11 +59,6 @@ nothing_told whole bytes all = elim all [
   | inl none ↦ cc (none.1)
   | inr each ↦ (each.0, each.1, none_of (whole each.0) each.2)
 ]
-
-pub first_of_times : (bytes : List ℕ) (fault : NoteFault) (others : List NoteFault)
-    → AreAllFaults times_faults bytes (fault ∷ others) → IsRefused times_faults bytes fault
-first_of_times bytes fault others all =
-    first_told times_faults times_faults bytes fault others (λ D one begin. begin) all
 
 pub none_of_times : (bytes : List ℕ) → AreAllFaults times_faults bytes [] → (D : Members) × IsDocument bytes D
     × ((times : Op → Entry) × IsTimes D times)

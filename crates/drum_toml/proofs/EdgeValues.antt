@@ -1,15 +1,15 @@
 -- Values that are to be edges, from a place on.
-use Rattle.std.proofs.Common.{◌≡◌, ℕ, ◌+◌, ◌<◌, Bool, true, cond, List, [], ◌∷◌, ◌++◌, length, get_or, drop, Some, refl, ap}
-use Rattle.std.proofs.Common.{sym, ◌∙◌, subst, append-nil, arith}
+use Rattle.std.proofs.Common.{◌≡◌, ℕ, ◌+◌, ◌<◌, Bool, true, cond, List, ◌∷◌, ◌++◌, length, get_or, drop, Some, refl, ap, []}
+use Rattle.std.proofs.Common.{sym, ◌∙◌, subst, arith}
 use Rattle.std.specs.Prelude.{codes, decimal}
 use Rattle.drum_core.specs.Location.{is_location}
 use Rattle.drum_toml.specs.Document.{range, number_faults, at_key, is_count}
-use Rattle.drum_toml.specs.LongNotes.{edge_value_faults, edges_faults, listed_edge_faults, AreEdges, HasEdges, IsEdgeValue}
+use Rattle.drum_toml.specs.LongNotes.{edge_value_faults, edges_faults, listed_edge_faults, AreEdges, HasEdges}
 use Rattle.drum_toml.proofs.Added.{key_some}
 use Rattle.drum_toml.proofs.LongSaid.{edges_counted}
 use Rattle.drum_toml.proofs.TablesFaults.{array_from, count_seen}
 use Rattle.toml.proofs.Views.{items_view-drop}
-use Rattle.toml.specs.Data.{Data, array, as_array, Items, item, Members, get_member}
+use Rattle.toml.specs.Data.{Data, array, as_array, Items, Members, get_member}
 use Rattle.toml.specs.View.{view, items_view}
 use Rattle.toml.specs.declared.value.Value.{Value}
 
@@ -56,31 +56,6 @@ edges_left path vs place v within is =
     ap (listed_edge_faults path (place + 1)) (items_view-drop vs place v within)
     ∙ ap (λ (w : Value). edge_value_faults (path ++ codes "." ++ decimal (place + 1)) (view w)
     ++ listed_edge_faults path (place + 1 + 1) (items_view (drop (place + 1) vs))) (sym is)
-
--- where the values from a place on are edges, so is the one there, and so are those behind it
-split_edges : (value : Data) (items : Items) (edges : List (ℕ × ℕ)) → AreEdges (item value items) edges
-    → ((edge : ℕ × ℕ) × IsEdgeValue edge value) × ((more : List (ℕ × ℕ)) × AreEdges items more)
-split_edges value items [] are = absurd are
-split_edges value items (edge ∷ more) are = ((edge, are.0), (more, are.1))
-
-pub next_edge : (vs : List Value) (place : ℕ) (v : Value) → place < length vs → v ≡ get_or vs place v
-    → (edges : List (ℕ × ℕ)) × AreEdges (items_view (drop place vs)) edges
-    → ((edge : ℕ × ℕ) × IsEdgeValue edge (view v))
-    × ((more : List (ℕ × ℕ)) × AreEdges (items_view (drop (place + 1) vs)) more)
-next_edge vs place v within is (edges, are) =
-    let here : items_view (drop place vs) ≡ item (view v) (items_view (drop (place + 1) vs)) =
-    items_view-drop vs place v within
-    ∙ ap (λ (w : Value). item (view w) (items_view (drop (place + 1) vs))) (sym is) in
-    split_edges (view v) (items_view (drop (place + 1) vs)) edges
-    (subst (λ (items : Items). AreEdges items edges) here are)
-
--- where nothing is left, what is there says what all say
-pub edges_all : (vs : List Value) (place : ℕ) (edges : List (ℕ × ℕ)) → drop place vs ≡ []
-    → ((more : List (ℕ × ℕ)) → AreEdges (items_view (drop place vs)) more
-    → AreEdges (items_view vs) (edges ++ more)) → AreEdges (items_view vs) edges
-edges_all vs place edges past all =
-    subst (λ (xs : List (ℕ × ℕ)). AreEdges (items_view vs) xs) (append-nil edges)
-    (all [] (subst (λ (ws : List Value). AreEdges (items_view ws) []) (sym past) tt))
 
 -- the faults of an array of edges: whether it has none or too many, else those of its elements
 pub edges_are : (at key : List ℕ) (fields : Members) (d : Data) (vs : List Value) (fits : Bool)

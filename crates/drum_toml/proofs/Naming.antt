@@ -1,14 +1,13 @@
 -- The names that elements say, from a place on.
-use Rattle.std.proofs.Common.{◌≡◌, ℕ, zero, suc, ◌+◌, ◌<◌, ◌≤◌, Bool, true, false, ◌||◌, List, [], ◌∷◌, length, get_or, take}
-use Rattle.std.proofs.Common.{drop, Option, Some, None, refl, ap, sym, ◌∙◌, inl, inr, arith}
-use Rattle.std.specs.Prelude.{slice_get, min, is_some, IfNone, IfSome}
+use Rattle.std.proofs.Common.{◌≡◌, ℕ, zero, suc, ◌<◌, Bool, true, List, ◌∷◌, length, get_or, take, []}
+use Rattle.std.proofs.Common.{Option, Some, None, refl, ap, sym, ◌∙◌, inl, inr, arith}
+use Rattle.std.specs.Prelude.{slice_get, min}
 use Rattle.std.proofs.Math.Nat.{min-eq_left, min_comm}
 use Rattle.std.proofs.lemmas.Bool.{cases_lt}
-use Rattle.std.proofs.lemmas.List.{drop_all, take_all}
+use Rattle.std.proofs.lemmas.List.{take_all}
 use Rattle.std.proofs.lemmas.Map.Text.{is_eq-slice_cmp}
 use Rattle.std.proofs.lemmas.Slice.Eq.{bytes_eq-Decides}
-use Rattle.drum_toml.specs.LongNotes.{is_name_of, is_named, name_said, names_said}
-use Rattle.toml.proofs.Views.{items_view-drop}
+use Rattle.drum_toml.specs.LongNotes.{is_name_of, name_said, names_said}
 use Rattle.toml.specs.Data.{Data, Items, no_items, item}
 use Rattle.toml.specs.View.{view, items_view}
 use Rattle.toml.specs.declared.value.Value.{Value}
@@ -18,36 +17,6 @@ pub is_that : (name : List ℕ) (said : Option (List ℕ)) → is_name_of name s
 is_that name None is = cc
 is_that name (Some one) is =
     ap (λ (text : List ℕ). Some text) ((bytes_eq-Decides one name).0 (sym (is_eq-slice_cmp one name) ∙ is))
-
--- the name of the element at a place, and those of the ones behind it
-left : (vs : List Value) (place : ℕ) (v : Value) (name : List ℕ) → place < length vs → v ≡ get_or vs place v
-    → is_named (names_said (items_view (drop place vs))) name
-    ≡ (is_name_of name (name_said (view v)) || is_named (names_said (items_view (drop (place + 1) vs))) name)
-left vs place v name within is =
-    ap (λ items. is_named (names_said items) name) (items_view-drop vs place v within)
-    ∙ ap (λ (one : Value). is_name_of name (name_said (view one))
-    || is_named (names_said (items_view (drop (place + 1) vs))) name) (sym is)
-
-pub named_past : (vs : List Value) (place : ℕ) (v : Value) (name : List ℕ) (says all : Bool) → place < length vs
-    → v ≡ get_or vs place v → says ≡ is_name_of name (name_said (view v)) → says ≡ false
-    → is_named (names_said (items_view (drop place vs))) name ≡ all
-    → is_named (names_said (items_view (drop (place + 1) vs))) name ≡ all
-named_past vs place v name says all within is same isnt so_far =
-    let behind : Bool = is_named (names_said (items_view (drop (place + 1) vs))) name in
-    sym (ap (λ (b : Bool). b || behind) (sym same ∙ isnt)) ∙ sym (left vs place v name within is) ∙ so_far
-
-pub named_here : (vs : List Value) (place : ℕ) (v : Value) (name : List ℕ) (says all : Bool) → place < length vs
-    → v ≡ get_or vs place v → says ≡ is_name_of name (name_said (view v)) → says ≡ true
-    → is_named (names_said (items_view (drop place vs))) name ≡ all → all ≡ true
-named_here vs place v name says all within is same holds so_far =
-    let behind : Bool = is_named (names_said (items_view (drop (place + 1) vs))) name in
-    sym so_far ∙ left vs place v name within is ∙ ap (λ (b : Bool). b || behind) (sym same ∙ holds)
-
-pub named_none : (vs : List Value) (place : ℕ) (name : List ℕ) (all : Bool) → length vs ≤ place
-    → is_named (names_said (items_view (drop place vs))) name ≡ all → all ≡ false
-named_none vs place name all past so_far =
-    sym so_far
-    ∙ ap (λ (ws : List Value). is_named (names_said (items_view ws)) name) (drop_all place vs past)
 
 names_at : (vs : List Value) (place : ℕ) (d : Value) → place < length vs
     → slice_get (names_said (items_view vs)) place ≡ Some (name_said (view (get_or vs place d)))
@@ -90,9 +59,3 @@ module _ {A : Type 0} (says : Data → A) (all : Items → List A) (none : all n
         ∙ ap (λ (ws : List Value). all (items_view ws)) (take_all (length vs) vs (omega arith))
         ∙ sym (take_all count (all (items_view vs)) (omega (arith, said_length vs, past)))
   ]
-
--- one is found where one says it
-pub found_so : (found : Option ℕ) (says is : Bool) → is ≡ is_some found → IfNone found (says ≡ false)
-    → IfSome found (λ _. says ≡ true) → is ≡ says
-found_so None says is same none some = same ∙ sym none
-found_so (Some place) says is same none some = same ∙ sym some

@@ -1,6 +1,6 @@
 -- The entries of a timing table, one operation after the other.
-use Rattle.std.proofs.Common.{◌≡◌, ◌≢◌, ℕ, zero, suc, ◌+◌, ◌<◌, List, [], ◌∷◌, map, length, get_or, set, Some}
-use Rattle.std.proofs.Common.{Bor, refl, ap, sym, ◌∙◌, subst, arith, get_or-set_same, get_or-set_other, inl, inr, ◌⊎◌}
+use Rattle.std.proofs.Common.{◌≡◌, ◌≢◌, ℕ, ◌+◌, ◌<◌, List, map, length, get_or, set, Some, []}
+use Rattle.std.proofs.Common.{Bor, ap, sym, ◌∙◌, subst, arith, get_or-set_same, get_or-set_other, inl, inr, ◌⊎◌}
 use Rattle.std.proofs.lemmas.Bool.{cases_lt}
 use Rattle.std.proofs.lemmas.List.{get_or-map, length-map}
 use Rattle.std.proofs.lemmas.Option.{get_or_from_slice_get}
@@ -11,12 +11,8 @@ use Rattle.drum_core.proofs.OpLaws.{same_op, number_below, place_of}
 use Rattle.drum_times.specs.declared.entry.Entry.{Entry}
 use Rattle.drum_toml.specs.Document.{unknown_in}
 use Rattle.drum_times.specs.Entries.{blank}
-use Rattle.drum_core.specs.declared.parity.Parity.{Parity}
-use Rattle.drum_core.specs.declared.parity.Parity.TheVariants.{Any, Even, Odd}
-use Rattle.drum_toml.specs.TimesDocument.{key_of, text_of, IsEntry, IsTimes, SaysOperation}
-use Rattle.drum_toml.specs.Value.{StandsFor}
-use Rattle.drum_toml.proofs.NotesLaws.{stood}
-use Rattle.toml.specs.Data.{Data, Members, string, table, get_member}
+use Rattle.drum_toml.specs.TimesDocument.{key_of, IsEntry, IsTimes, SaysOperation}
+use Rattle.toml.specs.Data.{Members, table, get_member}
 
 -- each key is that of the operation at its place
 pub keyed_at : (keys : List (Bor (List ℕ))) (listed : List Op) (i : ℕ) (d : Bor (List ℕ)) (e : Op)
@@ -84,30 +80,9 @@ each_said D T said is has op =
     let here : is.operations ≡ T = cc in
     (said op, subst (λ (t : Members). SaysOperation t op (said op)) here (is.each op))
 
--- the table of an operation, and the entry that it says
-pub table_said : (T : Members) (op : Op) (key : List ℕ) → key ≡ key_of op → (entry : Entry) × SaysOperation T op entry
-    → (fields : Members) × (get_member key T ≡ Some (table fields))
-table_said T op key is (entry, (fields, there, says)) = (fields, ap (λ (k : List ℕ). get_member k T) is ∙ there)
-
 pub entry_there : (T F : Members) (op : Op) (key : List ℕ) → key ≡ key_of op → get_member key T ≡ Some (table F)
     → (entry : Entry) × SaysOperation T op entry → (entry : Entry) × IsEntry op F entry
 entry_there T F op key is has (entry, (fields, there, says)) =
     let same : Some (table F) ≡ Some (table fields) = sym has ∙ ap (λ (k : List ℕ). get_member k T) is ∙ there in
     let here : fields ≡ F = cc in
     (entry, subst (λ (f : Members). IsEntry op f entry) here says)
-
-abbrev parities : List (List ℕ × Parity)
-parities = (codes "any", Any) ∷ (codes "even", Even) ∷ (codes "odd", Odd) ∷ []
-
-pub parity_said : (fields : Members) (parity : Parity) → (value : Data)
-    × (get_member (codes "parity") fields ≡ Some value)
-    × StandsFor ((codes "any", Any) ∷ (codes "even", Even) ∷ (codes "odd", Odd) ∷ []) value parity
-    → get_member (codes "parity") fields ≡ Some (string (text_of parity))
-parity_said fields parity (value, has, (one, is, (k, within, at))) =
-    has ∙ ap Some (is ∙ ap string (stood text_of parities k one parity each within at))
-  where
-    each : (j : ℕ) (d : List ℕ × Parity) → j < 3 → (get_or parities j d).0 ≡ text_of (get_or parities j d).1
-    each zero d h = refl
-    each (suc zero) d h = refl
-    each (suc (suc zero)) d h = refl
-    each (suc (suc (suc j))) d h = absurd (omega arith)

@@ -1,5 +1,4 @@
-use Rattle.std.proofs.Common.{arith}
-use Rattle.drum_acceptance.proofs.Products.{told_low, told_more, told_all}
+use Rattle.drum_acceptance.proofs.Products.{told_low, told_more}
 use Rattle.drum_acceptance.proofs.counts.counts_of.Goals as goal
 
 pub loop-mark-preserved : goal.loop-mark-preserved
@@ -8,7 +7,3 @@ loop-mark-preserved c = record {
       c.loop-mark-test.true c.mark-item.is c.product-counts.ensures c.loop-mark.invariant.all;
   low = told_low _ _ c.product-counts.ensures;
 }
-
-pub returns : goal.returns
-returns c = told_all c.args.marks.now c.loop-mark.mark-index c.loop-mark.counts (omega (arith, c.loop-mark-test.false))
-    c.loop-mark.invariant.low c.loop-mark.invariant.all

@@ -1,12 +1,9 @@
 -- Of locations_at: each index is that of a node, so it can be looked up; the locations so far are those of the nodes
 -- at the indices so far.
-use Rattle.std.proofs.Common.{◌∙◌, ℕ, List, get_or, map, ap}
-use Rattle.std.proofs.lemmas.List.{take_all}
+use Rattle.std.proofs.Common.{◌∙◌, get_or, ap}
 use Rattle.std.proofs.lemmas.List.Elements.{Contains-get_or}
 use Rattle.drum_flow.specs.Flow.{nodes_of}
-use Rattle.drum_flow.specs.Hops.{Node}
 use Rattle.drum_flow.proofs.Founds.{numbers}
-use Rattle.drum_acceptance.specs.Free.{those_at}
 use Rattle.drum_acceptance.proofs.Translations.{locations_more}
 use Rattle.drum_acceptance.proofs.free_order.locations_at.Goals as goal
 
@@ -22,9 +19,3 @@ loop-index-preserved c =
     ap numbers c.in_ok-push.ensures.items
     ∙ locations_more (nodes_of c.args.flow.now) c.loop-index.locations.items c.args.indices.now k c.location.ensures.0
     c.location.result c.loop-index-test.true c.location.ensures.1 c.location.ensures.2 c.loop-index.invariant
-
-pub returns : goal.returns
-returns c =
-    c.loop-index.invariant
-    ∙ ap (λ (ks : List ℕ). map (λ (node : Node). node.place) (those_at (nodes_of c.args.flow.now) ks))
-    (take_all c.loop-index.index-index c.args.indices.now c.loop-index-test.false)

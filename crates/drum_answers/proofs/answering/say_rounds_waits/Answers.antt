@@ -12,15 +12,11 @@ use Rattle.drum_bracket.specs.CeilingText.{total_lines}
 use Rattle.drum_bracket.proofs.RowRoom.{hops_seen, spelled_out}
 use Rattle.drum_documents.specs.Documents.{setting_of}
 use Rattle.drum_answers.specs.Says.{rounds_waits_reply}
-use Rattle.drum_answers.proofs.Early.{soon_over}
 use Rattle.drum_answers.proofs.answering.say_rounds_waits.Goals as goal
 
 pub of-requires-clause-right : goal.of-requires-clause-right
 of-requires-clause-right g c =
     (c.args.documents.now.deck, (c.args.documents.now.notes, c.requires.right.walk))
-
-pub of-requires-clause-early : goal.of-requires-clause-early
-of-requires-clause-early g c = soon_over c.args.documents.now c.args.bracket.now c.requires.right
 
 pub returns-clause-does : goal.returns-clause-does
 returns-clause-does g c err =

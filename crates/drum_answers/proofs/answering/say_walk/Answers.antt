@@ -4,12 +4,6 @@ use Rattle.drum_answers.specs.Says.{walk_reply}
 use Rattle.drum_lines.proofs.NoLine.{no_line}
 use Rattle.drum_answers.proofs.answering.say_walk.Goals as goal
 
-pub say_rounds-requires-clause-none : goal.say_rounds-requires-clause-none
-say_rounds-requires-clause-none g c = (rw c.in-Ceiling.is at c.in_ok-basis.ensures.basis).0
-
-pub say_rounds-requires-clause-right : goal.say_rounds-requires-clause-right
-say_rounds-requires-clause-right g c = (rw c.in-Ceiling.is at c.in_ok-basis.ensures.basis).1
-
 pub returns-in-Bound-clause-does : goal.returns-in-Bound-clause-does
 returns-in-Bound-clause-does g c err =
     let analysis = c.in-Bound.analysis in

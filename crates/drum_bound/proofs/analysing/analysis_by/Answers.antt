@@ -1,6 +1,6 @@
 -- Of analysis_by: the finished scan and the walk that is followed back from its latest end are a
 -- found analysis (IsFound), whose bound, walk and table are right of the keys' walks.
-use Rattle.std.proofs.Common.{◌≡◌, ℕ, ◌+◌, ◌-◌, List, Vec, Global, length, map, ap, sym, ◌∙◌, subst, arith}
+use Rattle.std.proofs.Common.{◌≡◌, ℕ, ◌-◌, List, Vec, Global, length, map, ap, sym, subst, arith}
 use Rattle.std.proofs.lemmas.List.{length-map}
 use Rattle.drum_times.specs.declared.times.Times.{Times}
 use Rattle.drum_flow.specs.Flow.{deck_of}
@@ -84,16 +84,3 @@ returns-clause-is v c =
     (subst (AreLongest g (start_angle g.start)) (sym walked) is.longest)
     (subst (λ (all : List Visited). ArePasses g.notes.marks all c.of-2.result.passed) (sym walked)
     (subst (λ (all : List ℕ). ArePasses g.notes.marks visits all) (sym c.of-2.ensures.passed) own))
-
-pub returns-clause-words : goal.returns-clause-words
-returns-clause-words v c =
-    let is : IsFound c.args.keys.now c.args.times.now c.in_ok-scan.scan.cells
-    (map seen_visit c.in_ok-trace.trace.visits.items) =
-    is_found c.args.keys.now c.args.times.now c.in_ok-scan.scan (map seen_visit c.in_ok-trace.trace.visits.items)
-    c.in_ok-scan.ensures.keys c.in_ok-scan.ensures.times c.in_ok-scan.ensures.done c.in_ok-trace.ensures.walk c.in_ok-trace.ensures.longest in
-    ap (λ (cells : Cells). cells.words) c.of-2.ensures.cells ∙ is.are.words
-
-pub returns-clause-counted : goal.returns-clause-counted
-returns-clause-counted v c =
-    c.in_ok-scan.ensures.counted
-    ∙ ap (λ (cells : Cells). c.args.steps.now + cells.made) (sym c.of-2.ensures.cells)

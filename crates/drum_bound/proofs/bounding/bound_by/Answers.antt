@@ -1,6 +1,5 @@
 use Rattle.std.proofs.Common.{ℕ, length, subst}
 use Rattle.drum_times.specs.declared.times.Times.{Times}
-use Rattle.drum_walks.specs.Worst.{IsWorst}
 use Rattle.drum_bound.specs.declared.keys.Keys.{Keys}
 use Rattle.drum_bound.specs.Counted.{CountsTableOf}
 use Rattle.drum_bound.specs.KeysOf.{order_in, setting_with}
@@ -8,13 +7,6 @@ use Rattle.drum_bound.specs.ScanOf.{order_of, setting_in}
 use Rattle.drum_bound.proofs.Analyses.{has_counted}
 use Rattle.drum_bound.proofs.Finished.{is_ordered, starts_on_drum}
 use Rattle.drum_bound.proofs.bounding.bound_by.Goals as goal
-
-pub returns-clause-worst : goal.returns-clause-worst
-returns-clause-worst v c =
-    let scan = c.in_ok-scan.scan in
-    subst (λ (one : Keys). IsWorst (setting_with one c.args.times.now) c.bound.result) c.in_ok-scan.ensures.keys
-    (subst (λ (one : Times). IsWorst (setting_with scan.keys.now one) c.bound.result) c.in_ok-scan.ensures.times
-    c.bound.ensures.worst)
 
 pub returns-clause-counted : goal.returns-clause-counted
 returns-clause-counted v c =

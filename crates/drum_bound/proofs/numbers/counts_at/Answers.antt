@@ -1,13 +1,7 @@
-use Rattle.std.proofs.Common.{◌-◌, ◌+◌, ◌%◌, ◌∙◌, get_or, replicate, refl, arith}
+use Rattle.std.proofs.Common.{◌-◌, ◌+◌, ◌%◌, ◌∙◌, get_or, arith}
 use Rattle.std.proofs.lemmas.List.{length-set}
-use Rattle.drum_bound.proofs.CountLoops.{leads_none, leads_more, leads_all}
+use Rattle.drum_bound.proofs.CountLoops.{leads_more, leads_all}
 use Rattle.drum_bound.proofs.numbers.counts_at.Goals as goal
-
-pub loop-place-init : goal.loop-place-init
-loop-place-init c = record {
-  taken = leads_none c.args.marks.now (replicate 64 0) c.args.number c.requires.few;
-  places = refl;
-}
 
 pub loop-place-preserved : goal.loop-place-preserved
 loop-place-preserved c =

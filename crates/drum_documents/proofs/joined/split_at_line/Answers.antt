@@ -1,6 +1,6 @@
-use Rattle.std.proofs.Common.{◌≡◌, List, ℕ, [], ◌++◌, below_more, subst, sym, arith}
+use Rattle.std.proofs.Common.{◌≡◌, List, ℕ, ◌++◌, subst, sym, arith, []}
 use Rattle.std.specs.Prelude.{codes, ◌⊎◌}
-use Rattle.drum_documents.specs.Joined.{AreWholeLines, Begins, IsCut}
+use Rattle.drum_documents.specs.Joined.{AreWholeLines, IsCut}
 use Rattle.drum_documents.proofs.Cuts.{is_cut, no_cut, is_plain}
 use Rattle.drum_documents.proofs.joined.split_at_line.Goals as goal
 
@@ -16,12 +16,6 @@ returns-in-Some-clause-found c =
     c.loop-at.invariant
     (subst (λ (rest : List ℕ). (rest ≡ mark ++ codes "\n" ++ behind) ⊎ ((rest ≡ mark) × (behind ≡ [])))
     c.split_at.ensures.back told.1))
-
-pub loop-at-preserved : goal.loop-at-preserved
-loop-at-preserved c =
-    below_more _ _ c.loop-at.invariant
-    (λ begins. c.in_default.ensures (subst AreWholeLines (sym c.split_at.ensures.front) begins.whole)
-    (subst (Begins c.args.mark.now) (sym c.split_at.ensures.back) begins.begins))
 
 pub returns-clause-none : goal.returns-clause-none
 returns-clause-none c =

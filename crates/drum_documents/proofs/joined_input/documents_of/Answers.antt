@@ -1,6 +1,6 @@
-use Rattle.std.proofs.Common.{inl, inr, sym, ◌∙◌, arith}
+use Rattle.std.proofs.Common.{arith}
 use Rattle.std.proofs.lemmas.Result.{IfOk-weaker, IfErr-weaker}
-use Rattle.drum_documents.proofs.Giving.{joined_unread, known_documents, known_none, unfailing}
+use Rattle.drum_documents.proofs.Giving.{known_documents, known_none}
 use Rattle.drum_documents.proofs.joined_input.documents_of.Goals as goal
 
 pub returns-in-Ok-clause-fault : goal.returns-in-Ok-clause-fault
@@ -10,17 +10,9 @@ returns-in-Ok-clause-fault g c =
     (rw c.deref.ensures.value c.in-Ok.ensures.all) (omega (arith, c.deref.ensures.len, c.in-Ok.ensures.within)) is)
     c.joined.ensures.fault
 
-pub returns-in-Ok-clause-counted : goal.returns-in-Ok-clause-counted
-returns-in-Ok-clause-counted g c failures failed =
-    unfailing _ _ failures failed c.in-Ok.ensures.once (λ one. let is = c.in-Ok.ensures.read.1 one in cc)
-    ∙ sym (joined_unread c.deref.result.now c.joined.result c.joined.ensures.fault)
-
 pub returns-in-Ok-clause-gives : goal.returns-in-Ok-clause-gives
 returns-in-Ok-clause-gives g c =
     IfOk-weaker c.joined.result _ _ (λ documents is.
     known_documents (g.I.Input.unread c.args.input.now) c.deref.result.now documents
     (rw c.deref.ensures.value c.in-Ok.ensures.all) (omega (arith, c.deref.ensures.len, c.in-Ok.ensures.within)) is)
     c.joined.ensures.joins
-
-pub returns-in-Ok-clause-full : goal.returns-in-Ok-clause-full
-returns-in-Ok-clause-full g c given = absurd (elim (c.in-Ok.ensures.full (omega (arith, given))) [ inl is ↦ cc | inr is ↦ cc ])

@@ -32,11 +32,6 @@ returns-clause-texts g c held told =
     c.in_ok-texts.ensures.held held (first_told (g.S.Source.files c.args.source.now) held (named_in c.args.files)
     (inputs_named (name_in c.args.name)) told)
 
-pub returns-clause-inputs : goal.returns-clause-inputs
-returns-clause-inputs g c held told =
-    c.in_ok-inputs.ensures.text held (subst (λ (files : FilesTold). AreTold files held (inputs_named (name_in c.args.name)))
-    (sym c.in_ok-texts.ensures.behind) told.1.1.1)
-
 pub returns-in_err-texts-clause-asked : goal.returns-in_err-texts-clause-asked
 returns-in_err-texts-clause-asked g c =
     let p = err_from_is_err_and c.from_residual.result c.from_residual.ensures.1 in

@@ -7,25 +7,11 @@ use Rattle.std.proofs.lemmas.Bool.{cases_lt}
 use Rattle.std.proofs.lemmas.List.{length-map}
 use Rattle.std.proofs.lemmas.Option.{same_Some, slice_get_within}
 use Rattle.drum_core.specs.declared.location.Location.{Location}
-use Rattle.drum_devices.proofs.Handed.{handed}
 use Rattle.drum_deck.specs.InDeck.{loads_in}
 use Rattle.drum_order.proofs.Lists.{contains_at}
 use Rattle.drum_flow.specs.Accepted.{IsGood}
 use Rattle.drum_flow.proofs.Founds.{number_at, numbers}
 use Rattle.drum_flow.proofs.discovery.check_places.Goals as goal
-
-pub returns-in_err-check_place-clause-refused : goal.returns-in_err-check_place-clause-refused
-returns-in_err-check_place-clause-refused c =
-    let locations = c.args.locations.now in
-    let k = c.loop-location.location-index in
-    let location = c.location-item.result in
-    handed c.from_residual.result _ c.in_err-check_place.field-0.0 c.from_residual.ensures.1 (
-      k,
-      location.number,
-      number_at locations (numbers locations) k location refl c.loop-location-test.true c.location-item.is,
-      c.loop-location.invariant,
-      c.in_err-check_place.ensures.wrong,
-    )
 
 pub loop-location-preserved : goal.loop-location-preserved
 loop-location-preserved c k place below at =

@@ -1,8 +1,7 @@
 -- Of longest: the chain of waits and delays that the code goes through ends at the moment of the
 -- definition: x for Early, else e with the most units and the longest wait. The span of the chain
 -- gives the limit.
-use Rattle.std.proofs.Common.{◌≡◌, ℕ, ap, sym, ◌∙◌, inl, inr, arith, None, Some}
-use Rattle.drum_core.specs.declared.op.Op.{Op}
+use Rattle.std.proofs.Common.{◌≡◌, ℕ, ap, sym, ◌∙◌, inl, inr, arith, Some}
 use Rattle.drum_core.specs.Op.{op_of}
 use Rattle.drum_machine.specs.declared.ways.Way as ways
 use Rattle.drum_machine.specs.WaysLeft.{seen_way}
@@ -13,14 +12,6 @@ use Rattle.drum_machine.specs.Ways.{early, to, late}
 use Rattle.drum_flow.specs.Longest.{longest, most_units, most_wait}
 use Rattle.drum_flow.proofs.LongestLaws.{longest_of}
 use Rattle.drum_flow.proofs.longest.longest.Goals as goal
-
--- the profile has the operation of a hop
-pub unreachable-requires : goal.unreachable-requires
-unreachable-requires c = go
-    (sym c.requires.may_end.1 ∙ ap op_of (sym c.op.ensures) ∙ sym c.of.ensures.listed ∙ c.in_default.is)
-  where
-    go : {op : Op} → Some op ≡ None → ⊥
-    go e = cc
 
 -- a stop before the operation acts
 pub returns-in-Early-clause-value : goal.returns-in-Early-clause-value

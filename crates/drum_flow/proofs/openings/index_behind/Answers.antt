@@ -1,23 +1,11 @@
-use Rattle.std.proofs.Common.{◌≡◌, ℕ, List, [], ◌∷◌, ◌++◌, length, Option, Some, sym, subst, arith}
-use Rattle.std.specs.Prelude.{slice_get, slice_index_or, Contains}
-use Rattle.std.proofs.lemmas.List.{append-nil}
+use Rattle.std.proofs.Common.{◌≡◌, ℕ, List, ◌∷◌, ◌++◌, length, Option, sym, subst, arith, []}
+use Rattle.std.specs.Prelude.{slice_index_or, Contains}
 use Rattle.drum_machine.specs.declared.open.Open.{Open}
 use Rattle.drum_machine.specs.Calls.{open_after}
 use Rattle.drum_machine.specs.OpenIn.{between, open_in}
 use Rattle.drum_flow.specs.InNodes.{ways_in, ArePlacedIn}
 use Rattle.drum_flow.proofs.InNodesLaws.{placed_last}
 use Rattle.drum_flow.proofs.openings.index_behind.Goals as goal
-
-pub returns-in-Ok : goal.returns-in-Ok
-returns-in-Ok c = record {
-  here =
-      subst (λ (openings : List Open). slice_get (ways_in c.args.calls.now openings) c.in-Ok.index
-      ≡ Some (open_after c.args.calls.now (between c.args.from c.args.onto)
-      (slice_index_or (ways_in c.args.calls.now openings) c.args.before []))) c.deref.ensures.value c.in-Ok.ensures.there;
-  more = [];
-  kept = sym (append-nil c.args.openings.now.items);
-  different = λ different. different;
-}
 
 pub returns-in_ok-push-in-Err : goal.returns-in_ok-push-in-Err
 returns-in_ok-push-in-Err c =

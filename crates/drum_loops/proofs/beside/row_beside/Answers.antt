@@ -1,8 +1,8 @@
 -- Of row_beside: the nodes so far are kept but for those whose locations' edge is one of these.
-use Rattle.std.proofs.Common.{◌≡◌, ◌+◌, ◌++◌, ◌∷◌, [], Bool, true, false, ℕ, List, map, slice_index_or, take, ap}
+use Rattle.std.proofs.Common.{◌≡◌, ◌+◌, ◌++◌, ◌∷◌, Bool, true, false, ℕ, List, map, slice_index_or, take, ap, []}
 use Rattle.std.proofs.Common.{sym, ◌∙◌, subst, arith}
 use Rattle.std.specs.Prelude.{slice_get, slice_index, Some, Contains}
-use Rattle.std.proofs.lemmas.List.{take_more, take_all}
+use Rattle.std.proofs.lemmas.List.{take_more}
 use Rattle.std.proofs.lemmas.Option.{get_or_from_slice_get}
 use Rattle.drum_flow.specs.declared.flow_graph.Flow.{Flow}
 use Rattle.drum_flow.specs.Flow.{nodes_of}
@@ -12,7 +12,7 @@ use Rattle.drum_times.specs.EdgeOf.{edge_of}
 use Rattle.drum_loops.specs.Closing.{places_in}
 use Rattle.drum_loops.specs.Spared.{edge_at, IsRowBeside}
 use Rattle.drum_loops.proofs.TargetLaws.{row_inside}
-use Rattle.drum_loops.proofs.Besides.{beside_more, beside_there, none_beside}
+use Rattle.drum_loops.proofs.Besides.{beside_more, beside_there}
 use Rattle.drum_loops.proofs.beside.row_beside.Goals as goal
 
 -- the locations of two nodes
@@ -28,12 +28,6 @@ edge_of_nodes flow k j from onto begins ends =
         → number ≡ slice_index (places_in flow) k
     place k number at =
         at.2 ∙ sym (get_or_from_slice_get (places_in flow) k at.0.place 0 (place_at (nodes_of flow) k at.0 at.1))
-
-pub loop-next-init : goal.loop-next-init
-loop-next-init c =
-    subst (IsRowBeside (places_in c.args.flow.now) (map edge_of c.args.edges.now) c.args.node [])
-    (sym c.new-rest.ensures.items)
-    (none_beside (places_in c.args.flow.now) (map edge_of c.args.edges.now) c.args.node)
 
 pub location-requires : goal.location-requires
 location-requires c =
@@ -75,11 +69,3 @@ loop-next-preserved c =
     (subst (λ (pair : ℕ × ℕ). ¬ Contains edges pair)
     (edge_of_nodes flow c.args.node next c.location-from.result.number c.location.result.number c.location-from.ensures
     c.location.ensures) none)))
-
-pub returns : goal.returns
-returns c =
-    subst
-    (λ (nodes : List ℕ). IsRowBeside (places_in c.args.flow.now) (map edge_of c.args.edges.now) c.args.node nodes
-    c.loop-next.rest.items)
-    (take_all c.loop-next.next-index c.row-next-items.result.now c.loop-next-test.false ∙ c.row-next-items.ensures)
-    c.loop-next.invariant

@@ -1,5 +1,5 @@
 -- Of rows_beside: each row so far is that of its node, and a row that is added keeps it so.
-use Rattle.std.proofs.Common.{ℕ, ◌+◌, List, length, map, sym, ap, ◌∙◌, subst, arith}
+use Rattle.std.proofs.Common.{ℕ, ◌+◌, List, length, map, sym, ap, ◌∙◌, subst}
 use Rattle.std.specs.Prelude.{Vec}
 use Rattle.std.specs.declared.alloc.Global.{Global}
 use Rattle.std.proofs.lemmas.List.{length_push}
@@ -29,7 +29,3 @@ loop-node-preserved c =
           (rows_pushed (λ node nodes. IsRowBeside places edges node (row graph node) nodes) rows rest c.loop-node.node
           c.loop-node.invariant.long c.loop-node.invariant.rows c.in_ok-rest.ensures node below);
     }
-
-pub returns-clause-rows : goal.returns-clause-rows
-returns-clause-rows c node below =
-    c.loop-node.invariant.rows node (omega (arith, below, c.loop-node-test.false, c.size-node-end.ensures))

@@ -1,27 +1,17 @@
 -- Of edges_back: the edges are those from the locations so far. What one more location adds leads
 -- from it, so no edge is there twice.
-use Rattle.std.proofs.Common.{◌≡◌, ◌++◌, ◌∷◌, [], ℕ, List, Some, map, take, ap, sym, ◌∙◌, subst}
+use Rattle.std.proofs.Common.{◌≡◌, ◌++◌, ◌∷◌, ℕ, List, Some, map, take, ap, sym, ◌∙◌, subst, []}
 use Rattle.std.specs.Prelude.{slice_get, Contains}
 use Rattle.std.proofs.lemmas.List.{take-map, take_all}
 use Rattle.drum_core.specs.declared.location.Location.{Location}
-use Rattle.drum_times.specs.declared.notes.edge.Edge.{Edge}
 use Rattle.drum_times.specs.EdgeOf.{edge_of}
 use Rattle.drum_order.specs.Graph.{row, size}
 use Rattle.drum_flow.specs.Flow.{executed_in}
 use Rattle.drum_flow.specs.Found.{places_of}
 use Rattle.drum_flow.proofs.Founds.{number_at, numbers, numbers_more}
 use Rattle.drum_loops.specs.Closing.{places_in, AreBack, edges_onto}
-use Rattle.drum_loops.proofs.Backs.{back_more, none_back, not_before}
+use Rattle.drum_loops.proofs.Backs.{back_more, not_before}
 use Rattle.drum_loops.proofs.closing.edges_back.Goals as goal
-
-pub loop-from-init : goal.loop-from-init
-loop-from-init c =
-    let flow = c.args.flow.now in
-    let graph = c.args.graph.now in
-    subst
-    (λ (edges : List Edge). AreBack (row graph) c.args.ranks.now (places_in flow) (size graph) [] (map edge_of edges))
-    (sym c.new-edges.ensures.items)
-    (none_back (row graph) c.args.ranks.now (places_in flow) (size graph))
 
 pub loop-from-preserved : goal.loop-from-preserved
 loop-from-preserved c =

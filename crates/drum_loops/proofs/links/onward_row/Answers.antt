@@ -1,6 +1,6 @@
 -- Of onward_row: the row is that of the targets so far. One more target adds nothing where no step
 -- goes to it, and else the index of the node that it leads to.
-use Rattle.std.proofs.Common.{◌≡◌, ℕ, ◌+◌, List, [], ◌∷◌, ◌++◌, Some, take, sym, ◌∙◌, subst}
+use Rattle.std.proofs.Common.{◌≡◌, ℕ, ◌+◌, List, ◌∷◌, ◌++◌, Some, take, sym, ◌∙◌, subst, []}
 use Rattle.std.specs.Prelude.{slice_get}
 use Rattle.std.proofs.lemmas.List.{take_all}
 use Rattle.std.proofs.lemmas.Option.{same_Some}
@@ -10,14 +10,8 @@ use Rattle.drum_flow.specs.Flow.{nodes_of}
 use Rattle.drum_flow.specs.Hops.{Node}
 use Rattle.drum_flow.proofs.Founds.{numbers, numbers_more}
 use Rattle.drum_loops.specs.Links.{IsOnwardRow}
-use Rattle.drum_loops.proofs.LinkRows.{none_onward, row_absent, row_more}
+use Rattle.drum_loops.proofs.LinkRows.{row_absent, row_more}
 use Rattle.drum_loops.proofs.links.onward_row.Goals as goal
-
-pub loop-onto-init : goal.loop-onto-init
-loop-onto-init c from at =
-    let flow = c.args.flow.now in
-    subst (IsOnwardRow flow.notes.now (nodes_of flow) [] from) (sym c.new-row.ensures.items)
-    (none_onward flow.notes.now (nodes_of flow) from)
 
 pub loop-onto-preserved-in_default : goal.loop-onto-preserved-in_default
 loop-onto-preserved-in_default c from at =

@@ -3,16 +3,13 @@ use Rattle.std.proofs.Common.{slice_index_or, sym, ◌∙◌}
 use Rattle.std.proofs.lemmas.List.Elements.{Contains-get_or}
 use Rattle.drum_loops.specs.Reached.{IsAt}
 use Rattle.drum_loops.specs.Closing.{places_in}
-use Rattle.drum_loops.proofs.Suches.{place_told, such_here, such_more, such_none, such_nowhere}
+use Rattle.drum_loops.proofs.Suches.{place_told, such_here, such_more, such_nowhere}
 use Rattle.drum_loops.proofs.nesting.one_is_at.Goals as goal
 
 pub location-requires : goal.location-requires
 location-requires c =
     c.requires (slice_index_or c.args.nodes.now c.loop-node.node-index 0)
     (Contains-get_or c.args.nodes.now c.loop-node.node-index 0 c.loop-node-test.true)
-
-pub loop-node-init : goal.loop-node-init
-loop-node-init c = such_none (IsAt (places_in c.args.flow.now) c.args.location.number) c.args.nodes.now
 
 pub returns-then-number : goal.returns-then-number
 returns-then-number c =

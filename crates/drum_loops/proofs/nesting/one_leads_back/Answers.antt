@@ -4,21 +4,13 @@ use Rattle.std.proofs.lemmas.List.Elements.{Contains-get_or}
 use Rattle.drum_order.specs.Graph.{row}
 use Rattle.drum_loops.specs.Reached.{LeadsBack}
 use Rattle.drum_loops.specs.Closing.{places_in}
-use Rattle.drum_loops.proofs.Suches.{denied, such_here, such_more, such_none, such_nowhere}
+use Rattle.drum_loops.proofs.Suches.{denied, such_more, such_nowhere}
 use Rattle.drum_loops.proofs.nesting.one_leads_back.Goals as goal
 
 pub leads_back-requires-clause-within : goal.leads_back-requires-clause-within
 leads_back-requires-clause-within c =
     c.requires.within (slice_index_or c.args.nodes.now c.loop-node.node-index 0)
     (Contains-get_or c.args.nodes.now c.loop-node.node-index 0 c.loop-node-test.true)
-
-pub loop-node-init : goal.loop-node-init
-loop-node-init c = such_none (LeadsBack (row c.args.graph.now) (places_in c.args.flow.now) c.args.from.number c.args.back) c.args.nodes.now
-
-pub returns-then-leads_back : goal.returns-then-leads_back
-returns-then-leads_back c =
-    such_here (LeadsBack (row c.args.graph.now) (places_in c.args.flow.now) c.args.from.number c.args.back) c.args.nodes.now
-    c.loop-node.node-index c.loop-node-test.true (c.leads_back.ensures.0 c.if-leads_back.true)
 
 pub loop-node-preserved : goal.loop-node-preserved
 loop-node-preserved c =

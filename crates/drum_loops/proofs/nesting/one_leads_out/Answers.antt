@@ -5,21 +5,13 @@ use Rattle.drum_times.specs.EdgeOf.{edge_of}
 use Rattle.drum_order.specs.Graph.{row}
 use Rattle.drum_loops.specs.Reached.{LeadsOut}
 use Rattle.drum_loops.specs.Closing.{places_in}
-use Rattle.drum_loops.proofs.Suches.{denied, such_here, such_more, such_none, such_nowhere}
+use Rattle.drum_loops.proofs.Suches.{denied, such_more, such_nowhere}
 use Rattle.drum_loops.proofs.nesting.one_leads_out.Goals as goal
 
 pub leads_out-requires-clause-within : goal.leads_out-requires-clause-within
 leads_out-requires-clause-within c =
     c.requires.within (slice_index_or c.args.nodes.now c.loop-node.node-index 0)
     (Contains-get_or c.args.nodes.now c.loop-node.node-index 0 c.loop-node-test.true)
-
-pub loop-node-init : goal.loop-node-init
-loop-node-init c = such_none (LeadsOut (row c.args.graph.now) (places_in c.args.flow.now) (edge_of c.args.edge)) c.args.nodes.now
-
-pub returns-then-leads_out : goal.returns-then-leads_out
-returns-then-leads_out c =
-    such_here (LeadsOut (row c.args.graph.now) (places_in c.args.flow.now) (edge_of c.args.edge)) c.args.nodes.now
-    c.loop-node.node-index c.loop-node-test.true (c.leads_out.ensures.0 c.if-leads_out.true)
 
 pub loop-node-preserved : goal.loop-node-preserved
 loop-node-preserved c =

@@ -6,12 +6,8 @@ use Rattle.drum_flow.specs.Found.{places_of}
 use Rattle.drum_flow.proofs.Founds.{numbers, numbers_more}
 use Rattle.drum_loops.specs.Closing.{places_in}
 use Rattle.drum_loops.specs.Spared.{AreOneWay}
-use Rattle.drum_loops.proofs.OneWays.{none_one_way, one_way_more}
+use Rattle.drum_loops.proofs.OneWays.{one_way_more}
 use Rattle.drum_loops.proofs.one_way.are_one_way.Goals as goal
-
-pub loop-from-init : goal.loop-from-init
-loop-from-init c =
-    none_one_way (row c.args.graph.now) c.args.ranks.now (places_in c.args.flow.now) (size c.args.graph.now)
 
 pub loop-from-preserved : goal.loop-from-preserved
 loop-from-preserved c =

@@ -8,11 +8,8 @@ use Rattle.drum_flow.specs.Found.{places_of}
 use Rattle.drum_flow.proofs.Orders.{place_at}
 use Rattle.drum_loops.specs.Closing.{places_in}
 use Rattle.drum_loops.proofs.TargetLaws.{row_inside}
-use Rattle.drum_loops.proofs.OneWays.{absent_at, none_ahead, ahead_absent, ahead_low, NoneAhead}
+use Rattle.drum_loops.proofs.OneWays.{absent_at, ahead_absent, ahead_low, NoneAhead}
 use Rattle.drum_loops.proofs.one_way.leads_on.Goals as goal
-
-pub loop-next-init : goal.loop-next-init
-loop-next-init c = none_ahead c.args.ranks.now (places_in c.args.flow.now) c.args.node (places_of c.args.targets.now)
 
 pub offset_bounds-ranks-next : goal.offset_bounds-ranks-next
 offset_bounds-ranks-next c =
@@ -31,15 +28,6 @@ bounds-ranks-next c =
       row_inside c.args.graph.now c.args.node c.loop-next.next-index c.row-next-items.result.now
           c.row-next-items.ensures c.loop-next-test.true,
       c.requires.ranks,
-    )
-
-pub location-requires : goal.location-requires
-location-requires c =
-    omega (
-      arith,
-      row_inside c.args.graph.now c.args.node c.loop-next.next-index c.row-next-items.result.now
-          c.row-next-items.ensures c.loop-next-test.true,
-      c.requires.size,
     )
 
 pub loop-next-preserved-then-ranks-next : goal.loop-next-preserved-then-ranks-next

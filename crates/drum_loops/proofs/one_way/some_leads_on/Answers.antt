@@ -5,13 +5,8 @@ use Rattle.drum_flow.specs.Flow.{nodes_of}
 use Rattle.drum_flow.specs.Found.{places_of}
 use Rattle.drum_flow.proofs.Orders.{place_at}
 use Rattle.drum_loops.specs.Closing.{places_in}
-use Rattle.drum_loops.proofs.OneWays.{none_on, on_more, on_other, NoneOn}
+use Rattle.drum_loops.proofs.OneWays.{on_more, on_other, NoneOn}
 use Rattle.drum_loops.proofs.one_way.some_leads_on.Goals as goal
-
-pub loop-node-init : goal.loop-node-init
-loop-node-init c =
-    none_on (row c.args.graph.now) c.args.ranks.now (places_in c.args.flow.now) c.args.from.number
-    (places_of c.args.targets.now)
 
 pub loop-node-preserved-then-number : goal.loop-node-preserved-then-number
 loop-node-preserved-then-number c =

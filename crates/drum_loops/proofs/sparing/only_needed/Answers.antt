@@ -1,40 +1,13 @@
 -- Of only_needed: what is kept is enough, and all of it is needed but for the edges that are left to
 -- be tried.
-use Rattle.std.proofs.Common.{rules, ◌≡◌, ◌∷◌, ◌++◌, [], ℕ, List, length, map, ap, sym, ◌∙◌, subst, arith}
-use Rattle.std.proofs.lemmas.List.{length_push, map_push}
+use Rattle.std.proofs.Common.{◌≡◌, ◌∷◌, ◌++◌, ℕ, List, map, ap, ◌∙◌, subst, []}
+use Rattle.std.proofs.lemmas.List.{map_push}
 use Rattle.drum_deck.specs.InDeck.{loads_in, start_in}
 use Rattle.drum_times.specs.declared.notes.edge.Edge.{Edge}
 use Rattle.drum_times.specs.EdgeOf.{edge_of}
 use Rattle.drum_loops.specs.Spared.{AreEnough, AreSpared, AreWithout, LackSome}
-use Rattle.drum_loops.proofs.Sparings.{spared_begun, spared_done, spared_kept, spared_out}
+use Rattle.drum_loops.proofs.Sparings.{spared_kept, spared_out}
 use Rattle.drum_loops.proofs.sparing.only_needed.Goals as goal
-
-pub loop-edge-init : goal.loop-edge-init
-loop-edge-init c =
-    let flow = c.args.flow.now in
-    let loads = loads_in flow.deck.now in
-    let start = start_in flow.deck.now in
-    let edges = c.args.edges.items in
-    let same : c.in_ok-left.left.items ≡ edges =
-    c.in_ok-left.ensures.items_if_clones_equal (λ x y h. search rules) ∙ c.deref.ensures.value in
-    subst (λ (left : List Edge). AreSpared loads flow.notes.now start (map edge_of left) (map edge_of edges)) (sym same)
-    (spared_begun loads flow.notes.now start (map edge_of edges) c.requires.enough c.requires.apart)
-
-pub loop-edge-smaller-then-branch : goal.loop-edge-smaller-then-branch
-loop-edge-smaller-then-branch c =
-    omega (
-      arith,
-      ap (λ (xs : List Edge). length xs) c.in-Some.ensures.items,
-      length_push c.pop.new.self.items c.in-Some.edge,
-    )
-
-pub loop-edge-smaller : goal.loop-edge-smaller
-loop-edge-smaller c =
-    omega (
-      arith,
-      ap (λ (xs : List Edge). length xs) c.in-Some.ensures.items,
-      length_push c.pop.new.self.items c.in-Some.edge,
-    )
 
 pub loop-edge-preserved-then-branch : goal.loop-edge-preserved-then-branch
 loop-edge-preserved-then-branch c =
@@ -75,14 +48,3 @@ loop-edge-preserved c =
     (subst (λ (edges : List Edge). LackSome loads flow.notes.now start (map edge_of edges))
     c.deref-in-Some-2.ensures.value
     (c.in_ok-are_enough.ensures.lacks c.if-branch.false))
-
-pub returns : goal.returns
-returns c =
-    let flow = c.args.flow.now in
-    let loads = loads_in flow.deck.now in
-    let start = start_in flow.deck.now in
-    let kept = map edge_of c.loop-edge.kept.items in
-    let empty : c.loop-edge.left.items ≡ [] = search rules in
-    spared_done loads flow.notes.now start kept
-    (subst (λ (left : List Edge). AreSpared loads flow.notes.now start (map edge_of left) kept) empty
-    c.loop-edge.invariant)

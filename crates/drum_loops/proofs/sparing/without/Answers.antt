@@ -1,17 +1,11 @@
 -- Of without: those so far are kept, but for the edge itself.
-use Rattle.std.proofs.Common.{◌≡◌, ◌+◌, ◌++◌, ◌∷◌, [], ℕ, List, map, take, ap, sym, ◌∙◌, subst}
-use Rattle.std.proofs.lemmas.List.{map_push, take_all}
-use Rattle.drum_times.specs.declared.notes.edge.Edge.{Edge}
+use Rattle.std.proofs.Common.{◌≡◌, ◌+◌, ◌++◌, ◌∷◌, ℕ, List, map, take, ap, sym, ◌∙◌, subst, []}
+use Rattle.std.proofs.lemmas.List.{map_push}
 use Rattle.drum_times.specs.EdgeOf.{edge_of}
 use Rattle.drum_loops.specs.Spared.{AreWithout}
 use Rattle.drum_loops.proofs.Besides.{edges_taken, leads_other, leads_same}
-use Rattle.drum_loops.proofs.Sparings.{none_without, without_it, without_more}
+use Rattle.drum_loops.proofs.Sparings.{without_it, without_more}
 use Rattle.drum_loops.proofs.sparing.without.Goals as goal
-
-pub loop-one-init : goal.loop-one-init
-loop-one-init c =
-    subst (λ (others : List Edge). AreWithout [] (edge_of c.args.edge) (map edge_of others))
-    (sym c.new-others.ensures.items) (none_without (edge_of c.args.edge))
 
 pub loop-one-preserved-then-leads : goal.loop-one-preserved-then-leads
 loop-one-preserved-then-leads c =
@@ -39,9 +33,3 @@ loop-one-preserved c =
     (sym (edges_taken edges k one c.loop-one-test.true c.one-item.is))
     (without_more (map edge_of (take k edges)) edge others (edge_of one) c.loop-one.invariant
     (leads_other edge.0 edge.1 (edge_of one) (sym c.leads.ensures ∙ c.if-leads.false))))
-
-pub returns : goal.returns
-returns c =
-    subst
-    (λ (edges : List Edge). AreWithout (map edge_of edges) (edge_of c.args.edge) (map edge_of c.loop-one.others.items))
-    (take_all c.loop-one.one-index c.args.edges.now c.loop-one-test.false) c.loop-one.invariant

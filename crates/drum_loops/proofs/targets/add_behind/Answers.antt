@@ -1,19 +1,16 @@
 -- Of add_behind: the locations of the nodes so far are added, where their rank isn't above the
 -- node's.
-use Rattle.std.proofs.Common.{◌≡◌, ◌+◌, ◌∷◌, [], ℕ, List, Some, slice_index_or, take, ap, sym, ◌∙◌, subst}
+use Rattle.std.proofs.Common.{◌≡◌, ◌+◌, ◌∷◌, ℕ, List, Some, slice_index_or, take, ap, sym, ◌∙◌, subst, []}
 use Rattle.std.proofs.Common.{arith}
 use Rattle.std.specs.Prelude.{slice_get}
-use Rattle.std.proofs.lemmas.List.{take_more, take_all}
+use Rattle.std.proofs.lemmas.List.{take_more}
 use Rattle.drum_flow.specs.Executed.{with_new}
 use Rattle.drum_flow.specs.Flow.{nodes_of}
 use Rattle.drum_flow.specs.Found.{places_of}
 use Rattle.drum_flow.proofs.Orders.{place_at}
 use Rattle.drum_loops.specs.Closing.{places_in, AreAdded}
-use Rattle.drum_loops.proofs.TargetLaws.{none_added, added_above, added_more, row_inside}
+use Rattle.drum_loops.proofs.TargetLaws.{added_above, added_more, row_inside}
 use Rattle.drum_loops.proofs.targets.add_behind.Goals as goal
-
-pub loop-next-init : goal.loop-next-init
-loop-next-init c = none_added c.args.ranks.now (places_in c.args.flow.now) c.args.node (places_of c.args.targets.now)
 
 pub offset_bounds-ranks-next : goal.offset_bounds-ranks-next
 offset_bounds-ranks-next c =
@@ -73,11 +70,3 @@ loop-next-preserved c =
     (sym (take_more row k 0 c.loop-next-test.true))
     (added_more (take k row) c.args.ranks.now places c.args.node before after next c.loop-next.invariant place at
     c.if-ranks-node.false))
-
-pub returns : goal.returns
-returns c =
-    subst
-    (λ (nodes : List ℕ). AreAdded nodes c.args.ranks.now (places_in c.args.flow.now) c.args.node
-    (places_of c.args.targets.now) (places_of c.loop-next.targets))
-    (take_all c.loop-next.next-index c.row-next-items.result.now c.loop-next-test.false ∙ c.row-next-items.ensures)
-    c.loop-next.invariant

@@ -1,21 +1,13 @@
 -- Of targets_behind: the locations are those to which the edges of the nodes so far lead back, of
 -- those at this location.
-use Rattle.std.proofs.Common.{◌≡◌, ℕ, List, Some, ap, sym, ◌∙◌, subst, arith}
-use Rattle.drum_order.specs.Graph.{row, size}
+use Rattle.std.proofs.Common.{◌≡◌, Some, ap, sym, ◌∙◌}
+use Rattle.drum_order.specs.Graph.{row}
 use Rattle.drum_flow.specs.Flow.{nodes_of}
 use Rattle.drum_flow.specs.Found.{places_of}
 use Rattle.drum_flow.proofs.Orders.{place_at}
-use Rattle.drum_loops.specs.Closing.{places_in, AreTargets}
-use Rattle.drum_loops.proofs.TargetLaws.{none_targets, targets_more, targets_other}
+use Rattle.drum_loops.specs.Closing.{places_in}
+use Rattle.drum_loops.proofs.TargetLaws.{targets_more, targets_other}
 use Rattle.drum_loops.proofs.targets.targets_behind.Goals as goal
-
-pub loop-node-init : goal.loop-node-init
-loop-node-init c =
-    let flow = c.args.flow.now in
-    let graph = c.args.graph.now in
-    subst (λ (targets : List ℕ). AreTargets (row graph) c.args.ranks.now (places_in flow) 0 c.args.from.number targets)
-    (sym c.none-targets.ensures)
-    (none_targets (row graph) c.args.ranks.now (places_in flow) c.args.from.number)
 
 pub loop-node-preserved-then-number : goal.loop-node-preserved-then-number
 loop-node-preserved-then-number c =
@@ -36,11 +28,3 @@ loop-node-preserved c =
     targets_more (row c.args.graph.now) c.args.ranks.now (places_in flow) k c.args.from.number
     (places_of c.loop-node.targets) c.loop-node.invariant (places_of c.add_behind.new.targets)
     (place_at (nodes_of flow) k c.location.ensures.0 c.location.ensures.1 ∙ ap Some same) c.in_ok-add_behind.ensures
-
-pub returns : goal.returns
-returns c =
-    let all : c.loop-node.node ≡ size c.args.graph.now =
-    omega (arith, c.loop-node-test.false, c.loop-node.auto.node-end, c.size-node-end.ensures) in
-    subst
-    (λ (n : ℕ). AreTargets (row c.args.graph.now) c.args.ranks.now (places_in c.args.flow.now) n c.args.from.number
-    (places_of c.loop-node.targets)) all c.loop-node.invariant

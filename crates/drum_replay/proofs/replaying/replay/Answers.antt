@@ -20,9 +20,3 @@ returns-in-None-clause-verdict c =
     replay_of g (given c.args.inputs) begun.most begun.most (length c.follow_run.ensures.0) c.follow_run.result is.has is.worst
     refl
     (judged_followed g (given c.args.inputs) begun is.begun_of c.follow_run.ensures.0 c.follow_run.result c.follow_run.ensures.1)
-
-pub follow_run-requires-clause-begins : goal.follow_run-requires-clause-begins
-follow_run-requires-clause-begins c = c.in_ok-following.ensures.begun.begun_of.ready.begins c.in-None.is
-
-pub follow_run-requires-clause-follows : goal.follow_run-requires-clause-follows
-follow_run-requires-clause-follows c = c.in_ok-following.ensures.begun.begun_of.ready.follows c.in-None.is

@@ -1,8 +1,7 @@
 use Rattle.std.proofs.Common.{[]}
 use Rattle.drum_sheet.proofs.Passing.{passes_none}
 use Rattle.drum_documents.specs.Documents.{setting_of}
-use Rattle.drum_replay.proofs.Seen.{seen_size}
-use Rattle.drum_replay.proofs.Traced.{either_map, some_map, traced_before, traced_followed}
+use Rattle.drum_replay.proofs.Traced.{either_map, traced_before, traced_followed}
 use Rattle.drum_replay.proofs.tracing.put_trace.Goals as goal
 
 pub returns-in-Some-clause-passes : goal.returns-in-Some-clause-passes
@@ -12,10 +11,6 @@ returns-in-Some-clause-passes g c given is = (
   passes_none (g.O.Output.device c.args.out.now) c.args.sheet.now,
   c.requires.fresh,
 )
-
-pub returns-in-Some-clause-sized : goal.returns-in-Some-clause-sized
-returns-in-Some-clause-sized g c =
-    seen_size c.args.documents.now.notes [] c.args.coverage.now c.requires.fresh
 
 pub returns-clause-passes : goal.returns-clause-passes
 returns-clause-passes g c given is =
@@ -33,9 +28,3 @@ returns-clause-passes g c given is =
       passes.2,
       passes.3,
     )
-
-pub returns-clause-sized : goal.returns-clause-sized
-returns-clause-sized g c =
-    let passes = c.put_steps.ensures.passes in
-    some_map c.put_steps.result passes.3
-    (λ seen. seen_size c.args.documents.now.notes passes.0 c.put_steps.new.coverage seen)

@@ -1,6 +1,4 @@
-use Rattle.std.proofs.Common.{◌++◌, [], ◌∷◌, List, take, ap, sym, ◌∙◌}
-use Rattle.std.proofs.lemmas.List.{take_all}
-use Rattle.drum_times.specs.declared.notes.mark.Mark.{Mark}
+use Rattle.std.proofs.Common.{◌++◌, ◌∷◌, List, take, ap, sym, ◌∙◌, []}
 use Rattle.drum_rounds.specs.declared.change.Change.{Change}
 use Rattle.drum_rounds.specs.Stretch.{changes_by}
 use Rattle.drum_rounds.proofs.CountLaws.{by_more}
@@ -13,9 +11,3 @@ loop-index-preserved c =
     c.in_ok-push.ensures.items ∙ ap (λ (cs : List Change). cs ++ c.change_by.result ∷ []) c.loop-index.invariant
     ∙ ap (λ (one : Change). changes_by marks c.args.passed 0 (take k marks) ++ one ∷ []) c.change_by.ensures
     ∙ sym (by_more marks c.args.passed k marks c.loop-index-test.true)
-
-pub returns : goal.returns
-returns c =
-    c.loop-index.invariant
-    ∙ ap (λ (ms : List Mark). changes_by c.args.marks.now c.args.passed 0 ms)
-    (take_all c.loop-index.index c.args.marks.now c.loop-index-test.false)

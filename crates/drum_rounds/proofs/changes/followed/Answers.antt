@@ -1,5 +1,4 @@
-use Rattle.std.proofs.Common.{◌++◌, [], ◌∷◌, List, take, ap, sym, ◌∙◌, arith}
-use Rattle.std.proofs.lemmas.List.{take_all}
+use Rattle.std.proofs.Common.{◌++◌, ◌∷◌, List, take, ap, sym, ◌∙◌, []}
 use Rattle.drum_rounds.specs.declared.change.Change.{Change}
 use Rattle.drum_rounds.specs.Change.{all_followed}
 use Rattle.drum_rounds.proofs.CountLaws.{followed_more}
@@ -14,12 +13,3 @@ loop-index-preserved c =
     c.in_ok-push.ensures.items ∙ ap (λ (cs : List Change). cs ++ c.in-Some.both ∷ []) c.loop-index.invariant
     ∙ ap (λ (one : Change). all_followed (take k changes) (take k others) ++ one ∷ []) so.2.2
     ∙ sym (followed_more changes others k so.0 so.2.0 so.1 so.2.1)
-
-pub returns : goal.returns
-returns c =
-    let k = c.loop-index.index in
-    c.loop-index.invariant
-    ∙ ap (λ (cs : List Change). all_followed cs (take k c.args.others.now))
-    (take_all k c.args.changes.now c.loop-index-test.false)
-    ∙ ap (λ (cs : List Change). all_followed c.args.changes.now cs)
-    (take_all k c.args.others.now (omega (arith, c.loop-index-test.false, c.requires)))

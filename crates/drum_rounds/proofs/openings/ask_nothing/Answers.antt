@@ -1,9 +1,7 @@
-use Rattle.std.proofs.Common.{◌≡◌, ◌+◌, suc, List, ℕ, Some, take, sym, subst, ap, ◌∙◌, arith}
+use Rattle.std.proofs.Common.{◌≡◌, ◌+◌, suc, ℕ, Some, take, sym, subst, ap, ◌∙◌, arith}
 use Rattle.std.specs.Prelude.{slice_get}
-use Rattle.std.proofs.lemmas.List.{take_all}
 use Rattle.std.proofs.lemmas.Option.{slice_get-get_or}
 use Rattle.drum_machine.specs.Calls.{none_open}
-use Rattle.drum_rounds.specs.declared.opening.Opening.{Opening}
 use Rattle.drum_rounds.specs.Opening.{Meet}
 use Rattle.drum_rounds.proofs.OpeningLaws.{closed_more}
 use Rattle.drum_rounds.proofs.openings.ask_nothing.Goals as goal
@@ -19,9 +17,3 @@ loop-opening-preserved c = λ calls.
     subst (λ (n : ℕ). Meet (take n openings) (none_open calls)) later
     (closed_more openings k opening calls at (c.loop-opening.invariant calls)
     (c.asks_nothing.ensures c.if-not-asks_nothing.false))
-
-pub returns : goal.returns
-returns c = λ yes calls.
-    subst (λ (os : List Opening). Meet os (none_open calls))
-    (take_all c.loop-opening.opening-index c.args.openings.now c.loop-opening-test.false)
-    (c.loop-opening.invariant calls)

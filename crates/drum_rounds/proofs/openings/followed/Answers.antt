@@ -1,6 +1,4 @@
-use Rattle.std.proofs.Common.{◌≡◌, ◌+◌, suc, ◌++◌, [], ◌∷◌, List, ℕ, take, sym, subst, arith}
-use Rattle.std.proofs.lemmas.List.{take_all}
-use Rattle.drum_rounds.specs.declared.opening.Opening.{Opening}
+use Rattle.std.proofs.Common.{◌≡◌, ◌+◌, suc, ◌++◌, ◌∷◌, ℕ, take, sym, subst, arith, []}
 use Rattle.drum_rounds.specs.Opening.{AreBoth}
 use Rattle.drum_rounds.proofs.OpeningLaws.{both_more}
 use Rattle.drum_rounds.proofs.openings.followed.Goals as goal
@@ -16,12 +14,3 @@ loop-index-preserved c =
     (subst (λ (n : ℕ). AreBoth (take n firsts) (take n nexts) (c.loop-index.all.items ++ c.in-Some.both ∷ [])) later
     (both_more firsts nexts c.loop-index.all.items k so.0 so.2.0 c.in-Some.both so.1 so.2.1 c.loop-index.invariant
     so.2.2))
-
-pub returns : goal.returns
-returns c =
-    let k = c.loop-index.index in
-    let firsts = c.args.firsts.now in
-    let nexts = c.args.nexts.now in
-    subst (λ (os : List Opening). AreBoth os nexts c.loop-index.all.items) (take_all k firsts c.loop-index-test.false)
-    (subst (λ (os : List Opening). AreBoth (take k firsts) os c.loop-index.all.items)
-    (take_all k nexts (omega (arith, c.loop-index-test.false, c.requires))) c.loop-index.invariant)

@@ -1,15 +1,9 @@
-use Rattle.std.proofs.Common.{◌≡◌, List, ap, sym, ◌∙◌, subst}
+use Rattle.std.proofs.Common.{List, sym, subst}
 use Rattle.std.specs.Prelude.{Contains}
 use Rattle.drum_machine.specs.Ways.{Way, ways}
 use Rattle.drum_machine.specs.WaysLeft.{seen_way, ways_left}
 use Rattle.drum_order.proofs.Lists.{contains_here, contains_there}
 use Rattle.drum_rounds.proofs.setting.has_way.Goals as goal
-
-pub loop-one-init : goal.loop-one-init
-loop-one-init c =
-    let all : ways_left c.into_iter-one-iterator.result ≡ ways c.args.notes.now c.args.instruction =
-    ap ways_left c.into_iter-one-iterator.ensures.into_iter_gives ∙ c.of-one-items.ensures in
-    λ way there. subst (λ (some : List Way). Contains some way) all there
 
 pub loop-one-preserved : goal.loop-one-preserved
 loop-one-preserved c = λ way there.

@@ -1,7 +1,7 @@
 -- Of AcceptedFlow::of: the flow is of this deck and these notes, so what is shown of the flow's
 -- deck holds of the argument's (moved): that it is too large, that edges free of marks lead round,
 -- or that it is accepted, with its order.
-use Rattle.std.proofs.Common.{◌≡◌, List, [], ◌∷◌, length, refl, ap, sym, ◌∙◌, arith}
+use Rattle.std.proofs.Common.{◌≡◌, List, ◌∷◌, length, refl, ap, sym, ◌∙◌, arith, []}
 use Rattle.std.specs.Prelude.{◌==◌}
 use Rattle.std.proofs.lemmas.Bool.{eqb-true}
 use Rattle.drum_devices.proofs.Handed.{handed}
@@ -10,10 +10,9 @@ use Rattle.drum_times.specs.declared.notes.call.Call.{Call}
 use Rattle.drum_times.specs.Allowed.{Notes}
 use Rattle.drum_flow.specs.Accepted.{IsAccepted}
 use Rattle.drum_flow.specs.Flow.{deck_of, executed_in, nodes_of, notes_of}
-use Rattle.drum_flow.specs.Executed.{AreAllNodes}
 use Rattle.drum_flow.proofs.Founds.{numbers}
 use Rattle.drum_acceptance.specs.Acceptance.{IsRefusal}
-use Rattle.drum_acceptance.specs.Free.{those_at, IsFreeOrder, IsNodeOrder}
+use Rattle.drum_acceptance.specs.Free.{those_at, IsFreeOrder}
 use Rattle.drum_acceptance.proofs.Acceptances.{is_admitted, moved, too_much, unbounded}
 use Rattle.drum_acceptance.proofs.accepted_flow.AcceptedFlow.of.Goals as goal
 
@@ -77,16 +76,3 @@ returns-clause-order c =
     c.args.deck.now (notes_of flow) c.args.notes.now
     c.in_ok-flow.ensures.deck c.in_ok-flow.ensures.notes
     (c.in_ok-order.ensures.order (ap (λ (n : Notes). n.calls) c.in_ok-flow.ensures.notes ∙ no_calls c))
-
-pub returns-clause-nodes : goal.returns-clause-nodes
-returns-clause-nodes c =
-    let flow = c.in_ok-flow.flow in
-    moved (λ d n. AreAllNodes (loads_in d) n (start_in d) (nodes_of flow)) (deck_of flow) c.args.deck.now (notes_of flow)
-    c.args.notes.now c.in_ok-flow.ensures.deck c.in_ok-flow.ensures.notes c.in_ok-flow.ensures.nodes
-
-pub returns-clause-onward : goal.returns-clause-onward
-returns-clause-onward c =
-    let flow = c.in_ok-flow.flow in
-    moved (λ d n. IsNodeOrder (loads_in d) n (nodes_of flow) (those_at (nodes_of flow) c.in_ok-order.order.nodes.items))
-    (deck_of flow) c.args.deck.now (notes_of flow) c.args.notes.now
-    c.in_ok-flow.ensures.deck c.in_ok-flow.ensures.notes c.in_ok-order.ensures.nodes

@@ -2,9 +2,8 @@ use Rattle.drum_devices.proofs.Handed.{handed}
 use Rattle.drum_deck.specs.InDeck.{loads_in, start_in}
 use Rattle.drum_flow.specs.Accepted.{IsAdmitted}
 use Rattle.drum_flow.specs.Flow.{deck_of, executed_in, nodes_of, notes_of}
-use Rattle.drum_flow.specs.Executed.{AreAllNodes}
 use Rattle.drum_acceptance.specs.Acceptance.{IsAdmissionRefusal}
-use Rattle.drum_acceptance.specs.Free.{those_at, IsNodeOrder}
+use Rattle.drum_acceptance.specs.Free.{those_at}
 use Rattle.drum_acceptance.proofs.Acceptances.{is_admitted, moved, not_admitted}
 use Rattle.drum_acceptance.proofs.accepted_flow.AcceptedFlow.of_any_size.Goals as goal
 
@@ -31,16 +30,3 @@ returns-clause-admitted c =
     c.in_ok-flow.ensures.unaltered (nodes_of flow)
     (those_at (nodes_of flow) c.in_ok-order.order.nodes.items) c.in_ok-flow.ensures.nodes
     c.in_ok-flow.ensures.few c.in_ok-order.ensures.nodes)
-
-pub returns-clause-nodes : goal.returns-clause-nodes
-returns-clause-nodes c =
-    let flow = c.in_ok-flow.flow in
-    moved (λ d n. AreAllNodes (loads_in d) n (start_in d) (nodes_of flow)) (deck_of flow) c.args.deck.now (notes_of flow)
-    c.args.notes.now c.in_ok-flow.ensures.deck c.in_ok-flow.ensures.notes c.in_ok-flow.ensures.nodes
-
-pub returns-clause-onward : goal.returns-clause-onward
-returns-clause-onward c =
-    let flow = c.in_ok-flow.flow in
-    moved (λ d n. IsNodeOrder (loads_in d) n (nodes_of flow) (those_at (nodes_of flow) c.in_ok-order.order.nodes.items))
-    (deck_of flow) c.args.deck.now (notes_of flow) c.args.notes.now
-    c.in_ok-flow.ensures.deck c.in_ok-flow.ensures.notes c.in_ok-order.ensures.nodes

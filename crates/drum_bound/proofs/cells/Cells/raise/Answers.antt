@@ -13,12 +13,6 @@ use Rattle.drum_bound.proofs.InCellsLaws.{clock_after, raised_entries, raised_is
 use Rattle.drum_flow.proofs.LongestLaws.{longest_later}
 use Rattle.drum_bound.proofs.cells.Cells.raise.Goals as goal
 
-pub of-end-requires : goal.of-end-requires
-of-end-requires g c = λ κs lives. (lives, c.requires.1.1.0.end)
-
-pub overflow_add-self : goal.overflow_add-self
-overflow_add-self g c = omega (arith, c.requires.1.1.0.few)
-
 pub keep-requires-clause-after : goal.keep-requires-clause-after
 keep-requires-clause-after g c =
     let search = c.args.search.now in

@@ -6,12 +6,6 @@ use Rattle.drum_bound.specs.InEntries.{pairs_of}
 use Rattle.drum_bound.specs.Scanned.{later}
 use Rattle.drum_bound.proofs.cells.Cells.stop.Goals as goal
 
-pub of-end-requires : goal.of-end-requires
-of-end-requires g c = λ κs lives. (lives, c.requires.1.end)
-
-pub overflow_add-self : goal.overflow_add-self
-overflow_add-self g c = omega (arith, c.requires.1.few)
-
 pub returns : goal.returns
 returns g c = record {
   same = ap (λ (limit : length (pairs_of c.args.self.now.entries) ≤ size_of c.args.self.now). record c.args.self.now {

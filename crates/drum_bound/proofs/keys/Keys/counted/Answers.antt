@@ -4,7 +4,6 @@ use Rattle.drum_machine.specs.CountsIn.{counts_in}
 use Rattle.drum_flow.specs.Flow.{notes_of}
 use Rattle.drum_flow.specs.Passes.{leading}
 use Rattle.drum_acceptance.specs.AcceptedFlow.{in_order}
-use Rattle.drum_bound.specs.Table.{number_of}
 use Rattle.drum_bound.proofs.Nodes.{as_long, small_product}
 use Rattle.drum_bound.proofs.keys.Keys.counted.Goals as goal
 
@@ -20,19 +19,3 @@ overflow_mul-result c =
     let product : c.leading-round.result * c.len.result ≡ leading marks counts * length order =
     ap (λ (n : ℕ). n * c.len.result) lead ∙ ap (λ (n : ℕ). leading marks counts * n) words in
     omega (arith, product, small_product marks order counts c.requires.within c.requires.keys.ordered.0.few)
-
-pub returns : goal.returns
-returns c =
-    let marks = (notes_of c.args.self.now.accepted.now.flow).marks in
-    let order = in_order c.args.self.now.accepted.now in
-    let counts = counts_in c.args.counts marks in
-    let lead : c.leading-round.result ≡ leading marks counts =
-    c.leading-round.ensures ∙ ap (λ (all : List Mark). leading all (counts_in c.args.counts all)) c.marks.ensures.all in
-    let words : c.len.result ≡ length order =
-    as_long c.args.self.now c.len.result c.requires.keys c.len.ensures in
-    record {
-      round = lead;
-      first = ap (λ (n : ℕ). n * c.len.result) lead ∙ ap (λ (n : ℕ). leading marks counts * n) words;
-      number = c.table_number.ensures
-          ∙ ap (λ (all : List Mark). number_of all (counts_in c.args.counts all)) c.marks-2.ensures.all;
-    }

@@ -2,7 +2,6 @@
 -- of the locations. So their number is a key, and too small to overflow.
 use Rattle.std.proofs.Common.{◌≡◌, ℕ, ◌+◌, ◌*◌, List, length, sym, ap, ◌∙◌, subst, arith}
 use Rattle.drum_times.specs.declared.notes.mark.Mark.{Mark}
-use Rattle.drum_machine.specs.Counts.{AreWithin}
 use Rattle.drum_machine.specs.CountsIn.{counts_in}
 use Rattle.drum_flow.specs.Flow.{notes_of}
 use Rattle.drum_flow.specs.Passes.{leading}
@@ -10,10 +9,6 @@ use Rattle.drum_acceptance.specs.AcceptedFlow.{in_order}
 use Rattle.drum_bound.specs.Keys.{IsKey}
 use Rattle.drum_bound.proofs.Nodes.{key_of_place, as_long, small_number, small_product}
 use Rattle.drum_bound.proofs.keys.Keys.key_of.Goals as goal
-
-pub leading-requires-clause-within : goal.leading-requires-clause-within
-leading-requires-clause-within c =
-    subst (λ (all : List Mark). AreWithin all (counts_in c.args.counts all)) (sym c.marks.ensures.all) c.requires.within
 
 pub overflow_mul-result : goal.overflow_mul-result
 overflow_mul-result c =

@@ -45,10 +45,6 @@ first_is : (scan : Scan) (counts first : ℕ) (round : Round) → IsScanned scan
 first_is scan counts first round is below of =
     round_first scan.keys.now.accepted.now counts round of (omega (arith, below, is.keys.counts))
 
-pub keeps_any-requires-clause-there : goal.keeps_any-requires-clause-there
-keeps_any-requires-clause-there g c =
-    omega (arith, c.requires.below, c.requires.scanned.keys.counts, c.requires.scanned.cells.counts)
-
 pub returns-then-not-keeps_any-clause-scanned : goal.returns-then-not-keeps_any-clause-scanned
 returns-then-not-keeps_any-clause-scanned g c =
     let scan = c.args.self.now in

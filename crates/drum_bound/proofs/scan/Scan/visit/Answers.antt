@@ -1,6 +1,6 @@
 -- Of Scan::visit: the origin names a hop of its key, so it is found; and the clocks of its begin
 -- and its end, less the start angle, are the word times used then.
-use Rattle.std.proofs.Common.{◌≡◌, ℕ, ◌+◌, ◌-◌, ◌%◌, ◌<◌, List, length, Some, None, ap, sym, ◌∙◌, subst, arith}
+use Rattle.std.proofs.Common.{◌≡◌, ℕ, ◌+◌, ◌-◌, ◌%◌, ◌<◌, List, length, Some, None, ap, sym, ◌∙◌, arith}
 use Rattle.std.specs.Prelude.{slice_get}
 use Rattle.std.proofs.Math.Nat.{mod-lt}
 use Rattle.std.proofs.lemmas.Option.{slice_get-get_or}
@@ -32,28 +32,12 @@ overflow_cast-result c =
       ends_soon c.args.self.now c.args.origin c.args.begin c.args.end.clock c.requires.from c.requires.begun,
     )
 
--- the index of a key's location is one of the order, and the location there is the key's
-index_inside : (scan : Scan) (key index : ℕ) → key < size_in scan → index ≡ key % length (order_of scan)
-    → index < length (order_of scan)
-index_inside scan key index below at =
-    subst (λ (n : ℕ). n < length (order_of scan)) (sym at)
-    (mod-lt key (some_places (setting_in scan).notes.marks (order_of scan) key below))
-
 place_read : (scan : Scan) (key index : ℕ) → key < size_in scan → index ≡ key % length (order_of scan)
     → slice_get (order_of scan) index ≡ Some (place_at (order_of scan) key)
 place_read scan key index below at =
     ap (slice_get (order_of scan)) at
     ∙ slice_get-get_or (order_of scan) (key % length (order_of scan)) 0
     (mod-lt key (some_places (setting_in scan).notes.marks (order_of scan) key below))
-
-pub hop_at-requires-clause-there : goal.hop_at-requires-clause-there
-hop_at-requires-clause-there c =
-    index_inside c.args.self.now c.args.origin.key c.args.index c.requires.from.below c.requires.index
-
-pub location-requires : goal.location-requires
-location-requires c = record {
-  there = index_inside c.args.self.now c.args.origin.key c.args.index c.requires.from.below c.requires.index;
-}
 
 pub unreachable-requires : goal.unreachable-requires
 unreachable-requires c =

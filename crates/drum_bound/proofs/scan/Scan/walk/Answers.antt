@@ -5,7 +5,7 @@ use Rattle.std.proofs.Common.{◌≡◌, ℕ, ◌-◌, List, Some, map, reverse,
 use Rattle.std.specs.Prelude.{option_map, slice_get}
 use Rattle.drum_times.specs.declared.notes.mark.Mark.{Mark}
 use Rattle.drum_walks.specs.declared.visit.Visit.{Visit}
-use Rattle.drum_walks.specs.Visited.{AreLongest, IsWalkOf, seen_visit}
+use Rattle.drum_walks.specs.Visited.{IsWalkOf, seen_visit}
 use Rattle.drum_bound.specs.AnalysisOf.{ArePasses}
 use Rattle.drum_bound.specs.KeysOf.{marks_in}
 use Rattle.drum_bound.specs.declared.latest.Latest.{Latest}
@@ -14,7 +14,7 @@ use Rattle.drum_bound.specs.Scanned.{cell_at}
 use Rattle.drum_bound.specs.Table.{start_angle}
 use Rattle.drum_bound.proofs.Finished.{is_ordered, starts_on_drum}
 use Rattle.drum_bound.proofs.Traces.{IsTraced, begins_before, falls, key_after, origin_kept, passes_more, trace_more}
-use Rattle.drum_bound.proofs.Traces.{trace_longest, trace_whole}
+use Rattle.drum_bound.proofs.Traces.{trace_whole}
 use Rattle.drum_bound.specs.InCells.{kept_in}
 use Rattle.drum_bound.proofs.scan.Scan.walk.Goals as goal
 
@@ -79,12 +79,3 @@ returns-clause-walk c =
     (trace_whole (setting_in scan) (order_of scan) (kept_in scan.cells) scan.cells.last (is_ordered scan c.requires)
     (starts_on_drum scan) c.requires.scanned
     c.loop-end.end c.loop-end.visits.items c.loop-end.invariant.traced c.in_default.is)
-
-pub returns-clause-longest : goal.returns-clause-longest
-returns-clause-longest c =
-    let scan = c.args.self.now in
-    subst (λ (visits : List Visit).
-    AreLongest (setting_in scan) (start_angle (setting_in scan).start) (map seen_visit visits))
-    (sym {A = List Visit} c.reverse.ensures.items)
-    (trace_longest (setting_in scan) (order_of scan) (kept_in scan.cells) scan.cells.last (is_ordered scan c.requires)
-    (starts_on_drum scan) c.requires.scanned c.loop-end.end c.loop-end.visits.items c.loop-end.invariant.traced)

@@ -1,48 +1,19 @@
 -- Of the functions that tell pieces: each tells as the definitions say, and no moment is too late.
-use Rattle.std.proofs.Common.{ℕ, suc, ◌+◌, ◌*◌, ◌≤◌, take, get_or, None, Some, ap, sym, ◌∙◌, subst, arith, rules, refl}
+use Rattle.std.proofs.Common.{ℕ, ◌+◌, ◌*◌, ◌≤◌, take, get_or, None, Some, ap, sym, ◌∙◌, subst, arith, rules, refl}
 use Rattle.std.specs.Prelude.{length}
 use Rattle.std.proofs.lemmas.Option.{slice_get_within}
 use Rattle.drum_walks.specs.declared.piece.Piece.{Piece}
 use Rattle.drum_walks.specs.Pieces.{spelled_of}
 use Rattle.drum_bracket.specs.ProgressOf.{told_of, MayTell}
-use Rattle.drum_bracket.specs.RoundsText.{at_time, both, end_line, end_rounds_line, first_place, last_place, one_more}
-use Rattle.drum_bracket.specs.RoundsText.{part_line, rounds_line, Telling, PartsSoFar}
+use Rattle.drum_bracket.specs.RoundsText.{at_time, both, end_rounds_line, first_place, last_place}
+use Rattle.drum_bracket.specs.RoundsText.{rounds_line, Telling}
 use Rattle.drum_bracket.specs.TellerOf.{named_told, piece_told, pieces_in, row_told}
 use Rattle.drum_sheet.proofs.Passing.{passes_as}
 use Rattle.drum_bracket.proofs.Tellings.{named_beyond, named_part, named_plain, row_is_told, rounds_each, rounds_fit}
-use Rattle.drum_bracket.proofs.Tellings.{rounds_sooner, rounds_split, row_all, row_more, row_none, row_sooner}
-use Rattle.drum_bracket.proofs.Passing.{begin_part, begin_rounds, end_part, end_rounds}
+use Rattle.drum_bracket.proofs.Tellings.{rounds_sooner, rounds_split, row_more, row_none, row_sooner}
+use Rattle.drum_bracket.proofs.Passing.{begin_rounds, end_rounds}
 use Rattle.drum_bracket.proofs.Passing.{told_as, told_line, told_none, told_then}
 use Rattle.drum_bracket.proofs.teller.Teller.+telling.Goals as goal
-
--- ---- a part where it first comes
-
-pub first-piece-requires : goal.first-piece-requires
-first-piece-requires g t c =
-    let begun = c.begin-part.new.self in
-    let tell : Telling = piece_told c.args.self.now c.args.number c.args.piece.now in
-    let sooner = ap (λ (u : PartsSoFar). (tell u).1.time) c.begin-part.ensures.told in
-    let may : MayTell (length (pieces_in c.args.self.now)) begun (tell (told_of begun)) =
-    record {
-      parts = c.begin-part.ensures.parts ∙ c.requires.may.parts;
-      fits = omega (arith, sooner, c.requires.may.fits);
-    } in
-    λ κs sub. (search rules, (search rules, (c.requires.teller, (c.requires.is, may))))
-
-pub first-returns : goal.first-returns
-first-returns g t c =
-    let old = c.args.progress.now in
-    let begun = c.begin-part.new.self in
-    let later = c.piece.new.progress in
-    let number = c.args.number in
-    let tell : Telling = piece_told c.args.self.now number c.args.piece.now in
-    told_then (both (begin_part number) tell) (end_part (suc old.begun))
-    (told_then (begin_part number) tell
-    (told_line (part_line (suc old.begun)) (one_more number (told_of old)) old {new = begun} c.begin-part.ensures.told
-    c.begin-part.ensures.parts (passes_as (ap part_line c.begin-part.ensures.part) c.put_part.ensures))
-    c.piece.ensures)
-    (told_line (end_line (suc old.begun)) (told_of later) later {new = later} refl refl
-    (passes_as (ap end_line c.begin-part.ensures.part) c.put_end.ensures))
 
 -- ---- a piece by its number
 
@@ -206,8 +177,3 @@ row-named-requires g t c =
     (named_told self c.args.limit (get_or c.args.names.now i 0) (told_of between)) =
     record { parts = so_far.parts ∙ c.requires.may.parts; fits = omega (arith, sooner, c.requires.may.fits) } in
     λ κs sub. (search rules, (search rules, (c.requires.teller, (c.requires.within, may))))
-
-pub row-returns : goal.row-returns
-row-returns g t c =
-    told_as (row_all c.args.self.now c.args.limit c.args.names.now c.loop-number.number-index
-    (told_of c.args.progress.now) c.loop-number-test.false) c.loop-number.invariant

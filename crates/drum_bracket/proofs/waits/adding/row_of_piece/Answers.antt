@@ -4,13 +4,8 @@ use Rattle.std.specs.Prelude.{slice_index}
 use Rattle.drum_times.specs.Entries.{entry_in}
 use Rattle.drum_walks.specs.Pieces.{seen_placed}
 use Rattle.drum_rounds.specs.InRounds.{often_of, takes}
-use Rattle.drum_bracket.proofs.RowRoom.{all_short, has_lasting, has_often, hop_lasts, hop_short, waits_in}
+use Rattle.drum_bracket.proofs.RowRoom.{all_short, has_often, hop_lasts, hop_short, waits_in}
 use Rattle.drum_bracket.proofs.waits.adding.row_of_piece.Goals as goal
-
-pub lasting-took-requires : goal.lasting-took-requires
-lasting-took-requires c =
-    let r = c.requires.right in
-    has_lasting r.0 c.args.times.now r.1.0 c.args.walk.now r.1.1 c.args.number c.args.one c.requires.here
 
 pub often-requires : goal.often-requires
 often-requires c =

@@ -1,12 +1,7 @@
 -- Of spent_by: a hop that is a piece is short.
 use Rattle.std.proofs.Common.{arith}
-use Rattle.drum_bracket.proofs.RowRoom.{has_lasting, hop_lasts, hop_short}
+use Rattle.drum_bracket.proofs.RowRoom.{hop_lasts, hop_short}
 use Rattle.drum_bracket.proofs.waits.adding.spent_by.Goals as goal
-
-pub lasting-took-requires : goal.lasting-took-requires
-lasting-took-requires c =
-    let r = c.requires.right in
-    has_lasting r.0 c.args.times.now r.1.0 c.args.walk.now r.1.1 c.args.number c.args.one c.requires.here
 
 pub overflow_cast-took : goal.overflow_cast-took
 overflow_cast-took c =

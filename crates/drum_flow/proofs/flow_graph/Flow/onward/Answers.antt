@@ -1,4 +1,4 @@
-use Rattle.std.proofs.Common.{◌≡◌, ℕ, [], ◌∷◌, Option, IfSome, IfNone, ap, sym, ◌∙◌, subst, Some, None}
+use Rattle.std.proofs.Common.{◌≡◌, ℕ, ◌∷◌, Option, IfSome, IfNone, ap, sym, ◌∙◌, subst, Some, None, []}
 use Rattle.std.proofs.lemmas.Option.{same_Some, slice_get-map}
 use Rattle.std.specs.Prelude.{option_map, slice_get, Contains}
 use Rattle.drum_order.proofs.Lists.{contains_from_get}
@@ -53,6 +53,3 @@ returns-clause-none c =
     (λ none from next at there onto. none next there
     (subst (λ (n : Node). Contains (onward flow.notes.now n c.args.onto.number) next)
     (same_Some from (view c.at.result) (sym at ∙ here c)) onto)) c.index_onward.ensures.none
-
-pub returns-clause-different : goal.returns-clause-different
-returns-clause-different c = c.at.ensures.different c.args.self.now.notes.now.calls c.args.self.now.held

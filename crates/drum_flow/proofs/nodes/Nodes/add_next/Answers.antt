@@ -1,9 +1,9 @@
 -- Of add_next: the targets' nodes are added one by one, and what is open at the node stays what it was.
-use Rattle.std.proofs.Common.{◌≡◌, ℕ, ◌+◌, ◌<◌, List, [], ◌∷◌, ◌++◌, length, get_or, take, ap, sym, ◌∙◌, arith}
+use Rattle.std.proofs.Common.{◌≡◌, ℕ, ◌+◌, ◌<◌, List, ◌∷◌, ◌++◌, length, get_or, take, ap, sym, ◌∙◌, []}
 use Rattle.std.proofs.Common.{append_assoc}
 use Rattle.std.specs.Prelude.{flat_map}
 use Rattle.std.proofs.lemmas.Grind.{flat_map-append}
-use Rattle.std.proofs.lemmas.List.{append-nil, length-append, take_all}
+use Rattle.std.proofs.lemmas.List.{append-nil, take_all}
 use Rattle.drum_core.specs.declared.location.Location.{Location}
 use Rattle.drum_deck.specs.InDeck.{loads_in}
 use Rattle.drum_machine.specs.declared.open.Open.{Open}
@@ -15,14 +15,6 @@ use Rattle.drum_flow.proofs.Founds.{numbers, numbers_more}
 use Rattle.drum_flow.proofs.InNodesLaws.{node_stays}
 use Rattle.drum_flow.proofs.Links.{node_law}
 use Rattle.drum_flow.proofs.nodes.Nodes.add_next.Goals as goal
-
-pub add_onward-requires-clause-from : goal.add_onward-requires-clause-from
-add_onward-requires-clause-from c = omega (
-  arith,
-  c.requires.from,
-  ap length c.loop-onto.invariant.kept,
-  length-append c.args.self.now.openings.items c.loop-onto.invariant.more,
-)
 
 -- what the targets stand for, with one more
 onward_more : (f : ℕ → List Node) (targets : List Location) (k : ℕ) (onto : Location) → k < length targets

@@ -1,6 +1,6 @@
 -- Of add_onward: what is open at the node is what its index says, so the step may go along the edge, or
 -- not, as the definitions have it; and what is open behind it has an index of its own.
-use Rattle.std.proofs.Common.{[], ℕ, List, Option, ap, sym, subst}
+use Rattle.std.proofs.Common.{ℕ, List, Option, ap, sym, subst, []}
 use Rattle.std.specs.Prelude.{slice_index_or}
 use Rattle.drum_machine.specs.Calls.{open_after, MayGo}
 use Rattle.drum_machine.specs.OpenIn.{open_in}
@@ -47,9 +47,6 @@ returns-clause-held c =
           c.requires.held.within is c.in_ok-insert.ensures.keys;
       different = is.different c.requires.held.different;
     }
-
-pub returns-clause-kept : goal.returns-clause-kept
-returns-clause-kept c = (c.in_ok-opening.ensures.more, c.in_ok-opening.ensures.kept)
 
 pub returns-then-not-may_go-clause-nodes : goal.returns-then-not-may_go-clause-nodes
 returns-then-not-may_go-clause-nodes c =

@@ -1,6 +1,5 @@
-use Rattle.std.proofs.Common.{◌≡◌, ◌<◌, ◌++◌, ◌∷◌, [], ℕ, List, length, reverse, sym, subst, ap, arith}
+use Rattle.std.proofs.Common.{◌≡◌, ◌<◌, ◌++◌, ◌∷◌, ℕ, List, length, reverse, sym, subst, arith, []}
 use Rattle.std.specs.Prelude.{IsSome}
-use Rattle.std.proofs.lemmas.List.{length_push}
 use Rattle.drum_order.specs.Graph.{row, size}
 use Rattle.drum_order.proofs.Searches.{popped}
 use Rattle.drum_loops.specs.Arranging.{IsArranging}
@@ -21,13 +20,3 @@ returns-clause-sound c =
     (leave_sound (row c.args.graph.now) (size c.args.graph.now) search.met.items search.passed.items
     search.path.items search.finished.items c.args.node c.pop.new.self.items c.requires.sound split c.requires.last
     c.requires.all)
-
-pub returns-clause-less : goal.returns-clause-less
-returns-clause-less c =
-    let search = c.args.self.now in
-    let some : 0 < length search.path.items → IsSome c.pop.result =
-    λ long. c.pop.ensures.variant.1 (omega (arith, long, search.path.ok.0)) in
-    let split : search.path.items ≡ c.pop.new.self.items ++ c.args.node ∷ [] =
-    popped search.path.items c.pop.new.self.items c.pop.result c.args.node c.pop.ensures.items some
-    c.requires.last in
-    omega (arith, ap (λ (xs : List ℕ). length xs) split, length_push c.pop.new.self.items c.args.node)

@@ -1,8 +1,8 @@
 -- Of add_row: those of the nodes so far were added that stand elsewhere. One more is added so too.
-use Rattle.std.proofs.Common.{◌≡◌, ℕ, Bool, true, false, List, ◌∷◌, [], ◌++◌, cond, slice_index_or, take}
-use Rattle.std.proofs.Common.{refl, ap, sym, ◌∙◌, subst, arith}
+use Rattle.std.proofs.Common.{◌≡◌, ℕ, Bool, true, false, List, ◌∷◌, ◌++◌, cond, slice_index_or, take, []}
+use Rattle.std.proofs.Common.{ap, sym, ◌∙◌, subst, arith}
 use Rattle.std.specs.Prelude.{filter}
-use Rattle.std.proofs.lemmas.List.{append-nil, take_all}
+use Rattle.std.proofs.lemmas.List.{append-nil}
 use Rattle.std.proofs.lemmas.List.Elements.{Contains-get_or, filter_more}
 use Rattle.drum_flow.specs.Executed.{with_new}
 use Rattle.drum_flow.proofs.Additions.{with_new_append}
@@ -17,10 +17,6 @@ location-requires c =
     c.requires.within (slice_index_or c.args.row.now c.loop-node.node-index 0)
     (Contains-get_or c.args.row.now c.loop-node.node-index 0 c.loop-node-test.true)
 
-pub add-requires-clause-met : goal.add-requires-clause-met
-add-requires-clause-met c =
-    subst (λ (n : ℕ). AreMet n c.loop-node.self) (sym c.size.ensures) c.loop-node.invariant.met
-
 pub add-requires-clause-within : goal.add-requires-clause-within
 add-requires-clause-within c =
     omega (
@@ -29,9 +25,6 @@ add-requires-clause-within c =
           (Contains-get_or c.args.row.now c.loop-node.node-index 0 c.loop-node-test.true),
       c.size.ensures,
     )
-
-pub loop-node-init : goal.loop-node-init
-loop-node-init c = record { met = c.requires.met; added = refl }
 
 pub loop-node-preserved-then-number : goal.loop-node-preserved-then-number
 loop-node-preserved-then-number c =
@@ -76,13 +69,3 @@ loop-node-preserved c =
           (sym (filter_more p row k 0 c.loop-node-test.true
           ∙ ap (λ (b : Bool). filter p (take k row) ++ cond b (node ∷ []) []) here));
     }
-
-pub returns-clause-met : goal.returns-clause-met
-returns-clause-met c = c.loop-node.invariant.met
-
-pub returns-clause-added : goal.returns-clause-added
-returns-clause-added c =
-    let p : ℕ → Bool = is_elsewhere (places_in c.args.flow.now) c.args.avoided.number in
-    c.loop-node.invariant.added
-    ∙ ap (λ (nodes : List ℕ). with_new (nodes_in c.args.self.now) (filter p nodes))
-    (take_all c.loop-node.node-index c.args.row.now c.loop-node-test.false)

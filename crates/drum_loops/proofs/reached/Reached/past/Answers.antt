@@ -1,6 +1,6 @@
 -- Of past: when all have added what edges lead to from them, the nodes are closed under edges that
 -- don't lead onto the avoided location. They are no more than the graph has, so all get their turn.
-use Rattle.std.proofs.Common.{◌≡◌, ℕ, ◌≤◌, List, ◌∷◌, [], length, get_or, Option, Some, None, sym, ap, ◌∙◌, subst, inl, inr}
+use Rattle.std.proofs.Common.{◌≡◌, ℕ, ◌≤◌, List, length, get_or, Option, Some, None, sym, ap, ◌∙◌, subst, inl, inr}
 use Rattle.std.proofs.Common.{arith}
 use Rattle.std.specs.Prelude.{slice_get, filter, Contains}
 use Rattle.std.proofs.lemmas.Bool.{cases_lt}
@@ -9,8 +9,8 @@ use Rattle.drum_order.specs.Graph.{row, size}
 use Rattle.drum_order.proofs.Lists.{contains_from_get}
 use Rattle.drum_flow.specs.Executed.{with_new}
 use Rattle.drum_loops.specs.Closing.{places_in}
-use Rattle.drum_loops.specs.Reached.{is_elsewhere, nodes_in, AreMet}
-use Rattle.drum_loops.proofs.Reachings.{all_reached, reached_few, reached_within, reaching_begun, reaching_more}
+use Rattle.drum_loops.specs.Reached.{is_elsewhere, nodes_in}
+use Rattle.drum_loops.proofs.Reachings.{all_reached, reached_few, reached_within, reaching_more}
 use Rattle.drum_loops.proofs.reached.Reached.past.Goals as goal
 use Rattle.drum_loops.proofs.reached.Reached.past.Goals.{else-loop-turn-test, then-loop-turn-test+in_default}
 
@@ -20,15 +20,6 @@ past_end xs k none = elim (cases_lt k (length xs)) [
       ∙ slice_get-get_or xs k 0 inside in cc)
   | inr past ↦ past
 ]
-
-pub loop-turn-init : goal.loop-turn-init
-loop-turn-init c = record {
-  met = subst (λ (n : ℕ). AreMet n c.add.new.self) (c.size-2.ensures ∙ c.requires.size) c.in_ok-add.ensures.met;
-  reaching =
-      reaching_begun (row c.args.graph.now) (places_in c.args.flow.now) c.args.avoided.number c.args.from
-      (nodes_in c.add.new.self)
-      (c.in_ok-add.ensures.added ∙ ap (λ (nodes : List ℕ). with_new nodes (c.args.from ∷ [])) c.in_ok-reached.ensures.none);
-}
 
 pub row-requires : goal.row-requires
 row-requires c =

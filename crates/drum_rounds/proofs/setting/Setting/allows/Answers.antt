@@ -1,22 +1,11 @@
-use Rattle.std.proofs.Common.{◌≡◌, List, ap, sym, ◌∙◌, subst}
+use Rattle.std.proofs.Common.{List, sym, subst}
 use Rattle.std.specs.Prelude.{flat_map, Contains}
 use Rattle.std.proofs.lemmas.List.Elements.{Contains-append_left, Contains-append_right}
-use Rattle.drum_core.specs.declared.instruction.Instruction.{Instruction}
-use Rattle.drum_deck.specs.InDeck.{loads_in}
-use Rattle.drum_times.specs.Allowed.{allowed, matching}
+use Rattle.drum_times.specs.Allowed.{matching}
 use Rattle.drum_times.specs.declared.notes.pattern.Pattern.{Pattern}
 use Rattle.drum_times.proofs.Matching.{matching_has}
 use Rattle.drum_flow.specs.Patterns.{patterns_left}
 use Rattle.drum_rounds.proofs.setting.Setting.allows.Goals as goal
-
-pub loop-pattern-init : goal.loop-pattern-init
-loop-pattern-init c =
-    let own = c.args.self.now in
-    let all : flat_map matching (patterns_left c.into_iter-pattern-iterator.result)
-    ≡ allowed (loads_in own.deck.now) own.notes.now c.args.location.number =
-    ap (λ (it : List Pattern). flat_map matching it)
-    (ap patterns_left c.into_iter-pattern-iterator.ensures.into_iter_gives) ∙ c.at-pattern-items.ensures in
-    λ ins there. subst (λ (some : List Instruction). Contains some ins) all there
 
 pub loop-pattern-preserved : goal.loop-pattern-preserved
 loop-pattern-preserved c = λ ins there.

@@ -1,18 +1,13 @@
-use Rattle.std.proofs.Common.{◌≡◌, ℕ, ◌+◌, List, [], ◌∷◌, ◌++◌, Some, get_or, take, refl, sym, ap, ◌∙◌, subst}
+use Rattle.std.proofs.Common.{◌≡◌, ℕ, ◌+◌, List, ◌∷◌, ◌++◌, Some, get_or, take, sym, ap, ◌∙◌, subst, []}
 use Rattle.std.specs.Prelude.{flat_map, length, slice_get}
 use Rattle.std.proofs.lemmas.Bool.{ltb-true}
 use Rattle.std.proofs.lemmas.Option.{slice_get-get_or}
 use Rattle.std.proofs.lemmas.Grind.{flat_map-append}
-use Rattle.std.proofs.lemmas.List.{append-nil, take_all, take_more}
+use Rattle.std.proofs.lemmas.List.{append-nil, take_more}
 use Rattle.drum_flow.specs.SettingOf.{setting}
 use Rattle.drum_walks.specs.Pieces.{spelled_at, PlacedHop}
 use Rattle.drum_rounds.specs.Stretch.{span_of, ComeTo}
 use Rattle.drum_rounds.proofs.setting.Setting.row.Goals as goal
-
-pub loop-number-init : goal.loop-number-init
-loop-number-init c before are =
-    let own = c.args.self.now in
-    c.in_ok-whole.ensures (setting own.deck.now own.times.now own.notes.now) refl
 
 pub loop-number-preserved : goal.loop-number-preserved
 loop-number-preserved c before are =
@@ -39,11 +34,3 @@ loop-number-preserved c before are =
     (append-nil (spelled_at before number))
     ) in
     subst (λ (hs : List PlacedHop). ComeTo g hs (span_of c.in-Some-2.longer)) more both
-
-pub returns : goal.returns
-returns c before are =
-    let own = c.args.self.now in
-    let g = setting own.deck.now own.times.now own.notes.now in
-    subst (λ (ns : List ℕ). ComeTo g (flat_map (spelled_at before) ns) (span_of c.loop-number.whole))
-    (take_all c.loop-number.number-index c.args.pieces.now c.loop-number-test.false)
-    (c.loop-number.invariant before are)

@@ -1,18 +1,9 @@
-use Rattle.std.proofs.Common.{◌+◌, List, [], take, sym, subst}
-use Rattle.std.proofs.lemmas.List.{take_all}
+use Rattle.std.proofs.Common.{◌+◌, take, sym, subst, []}
 use Rattle.drum_flow.specs.SettingOf.{setting}
-use Rattle.drum_walks.specs.declared.piece.Piece.{Piece}
 use Rattle.drum_walks.specs.Pieces.{spelled_behind}
-use Rattle.drum_rounds.specs.declared.stretch.Stretch.{Stretch}
 use Rattle.drum_rounds.specs.Stretch.{AreStretches}
-use Rattle.drum_rounds.proofs.Wholes.{no_stretches, stretches_more}
+use Rattle.drum_rounds.proofs.Wholes.{stretches_more}
 use Rattle.drum_rounds.proofs.setting.Setting.stretches.Goals as goal
-
-pub loop-piece-init : goal.loop-piece-init
-loop-piece-init c =
-    let own = c.args.self.now in
-    let g = setting own.deck.now own.times.now own.notes.now in
-    subst (λ (all : List Stretch). AreStretches g [] all) (sym c.new-stretches.ensures.items) (no_stretches g)
 
 pub loop-piece-preserved : goal.loop-piece-preserved
 loop-piece-preserved c =
@@ -27,10 +18,3 @@ loop-piece-preserved c =
     subst (AreStretches g (spelled_behind [] (take (k + 1) pieces))) (sym c.in_ok-push.ensures.items)
     (stretches_more g pieces k c.piece-item.result c.loop-piece.stretches.items c.in-Some.stretch
     c.loop-piece-test.true c.piece-item.is c.loop-piece.invariant come)
-
-pub returns : goal.returns
-returns c =
-    let own = c.args.self.now in
-    let g = setting own.deck.now own.times.now own.notes.now in
-    subst (λ (ps : List Piece). AreStretches g (spelled_behind [] ps) c.loop-piece.stretches.items)
-    (take_all c.loop-piece.piece-index c.args.pieces.now c.loop-piece-test.false) c.loop-piece.invariant

@@ -73,6 +73,3 @@ returns-clause-taken c d low high way there =
       | inr left ↦ absurd (contains_none way
           (subst (λ (left : List Way). Contains left way) c.in-None.ensures.steps.0 left))
     ]
-
-pub returns-clause-no_more : goal.returns-clause-no_more
-returns-clause-no_more c most low each = c.loop-way.invariant.no_more most low each

@@ -68,6 +68,3 @@ pub returns-clause-taken : goal.returns-clause-taken
 returns-clause-taken c =
     each_in_pattern (HasTaken c.args.from.now c.loop-d.self) c.args.pattern
     (λ d low high. c.loop-d.invariant.taken d low (omega (arith, high, c.loop-d-test.false)))
-
-pub returns-clause-no_more : goal.returns-clause-no_more
-returns-clause-no_more c most low each = c.loop-d.invariant.no_more most low each

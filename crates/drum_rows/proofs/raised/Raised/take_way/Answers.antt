@@ -43,9 +43,6 @@ returns-in-Some-clause-no_more c most low each =
     (subst (λ (ins : Instruction). latest from ins way + 49 ≤ from.angle + most) (sym c.instruction_of-instruction.ensures)
     (each c.in-Some.d c.in-Some.ensures.low c.in-Some.ensures.high))
 
-pub returns-clause-no_more : goal.returns-clause-no_more
-returns-clause-no_more c most low each = c.loop-d.invariant.no_more most low each
-
 pub take-requires-in-loop-d : goal.take-requires-in-loop-d
 take-requires-in-loop-d c =
     subst (λ (ins : Instruction). MayEnd ins (seen_way c.args.way)) (sym c.instruction_of-instruction-in-loop-d.ensures)

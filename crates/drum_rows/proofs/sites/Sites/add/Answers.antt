@@ -1,4 +1,4 @@
-use Rattle.std.proofs.Common.{◌≡◌, ◌∙◌, ℕ, ◌<◌, Bool, true, false, List, refl, sym, subst, inl, inr, arith}
+use Rattle.std.proofs.Common.{◌≡◌, ℕ, ◌<◌, true, false, List, refl, sym, subst, inl, inr, arith}
 use Rattle.std.specs.Prelude.{Contains}
 use Rattle.std.proofs.lemmas.Bool.{cases_lt}
 use Rattle.drum_machine.specs.Timing.{found}
@@ -31,21 +31,4 @@ loop-angle-preserved c =
                 × (found c.args.location.number s.angle ≡ s.angle)) same
                 (refl, c.loop-angle-test.true, c.is_found_at.ensures.0 c.if-not-is_found_at.false))
           ];
-    }
-
-pub loop-angle-preserved-then-not-is_found_at : goal.loop-angle-preserved-then-not-is_found_at
-loop-angle-preserved-then-not-is_found_at c =
-    let angle = c.loop-angle.angle in
-    let is = c.loop-angle.invariant in
-    record {
-      kept = is.kept;
-      added = λ one high at. elim (cases_lt one angle) [
-        | inl earlier ↦ is.added one earlier at
-        | inr last ↦ (
-            let same : one ≡ angle = omega (arith, high, last) in
-            let clash : ◌≡◌ {A = Bool} true false =
-            sym (c.is_found_at.ensures.1 (subst (λ (a : ℕ). found c.args.location.number a ≡ a) same at))
-            ∙ c.if-not-is_found_at.true in cc)
-      ];
-      only = is.only;
     }

@@ -1,6 +1,6 @@
 use Rattle.std.proofs.Common.{sym, ◌∙◌}
 use Rattle.drum_rows.specs.Sites.{sites_in}
-use Rattle.drum_rows.proofs.SiteKeys.{if_none, if_some, key_absent, key_found}
+use Rattle.drum_rows.proofs.SiteKeys.{if_some, key_found}
 use Rattle.drum_rows.proofs.sites.Sites.number.Goals as goal
 
 pub returns-clause-found : goal.returns-clause-found
@@ -8,9 +8,3 @@ returns-clause-found c =
     if_some c.get_index_of.result _
     (λ k e. key_found (sites_in c.args.self.now) (record { node = c.args.node; angle = c.args.angle }) k
     (sym c.get_index_of.ensures.index ∙ e))
-
-pub returns-clause-none : goal.returns-clause-none
-returns-clause-none c =
-    if_none c.get_index_of.result _
-    (λ e. key_absent (sites_in c.args.self.now) (record { node = c.args.node; angle = c.args.angle })
-    (sym c.get_index_of.ensures.found ∙ e))

@@ -11,9 +11,6 @@ pub read_operation-requires-clause-keyed : goal.read_operation-requires-clause-k
 read_operation-requires-clause-keyed c =
     keyed_at c.args.keys.now c.args.ops.now c.loop-at.at _ NoOperation c.requires.keyed c.loop-at-test.true
 
-pub read_operation-requires-clause-said : goal.read_operation-requires-clause-said
-read_operation-requires-clause-said c = c.requires.each _
-
 pub loop-at-preserved : goal.loop-at-preserved
 loop-at-preserved c = record {
   size = length-set c.loop-at.entries c.number.result c.read_operation.result ∙ c.loop-at.invariant.size;

@@ -4,11 +4,6 @@ use Rattle.drum_toml.proofs.TimesEntries.{each_said, times_of}
 use Rattle.drum_toml.proofs.TimesFaultless.{times_said}
 use Rattle.drum_toml.proofs.times.read.times_in.Goals as goal
 
-pub table-requires : goal.table-requires
-table-requires c =
-    let said = times_said (table_view c.args.table.now) c.requires in
-    (said.1.operations, said.1.op)
-
 pub read_entries-requires-clause-each : goal.read_entries-requires-clause-each
 read_entries-requires-clause-each c =
     let D = table_view c.args.table.now in

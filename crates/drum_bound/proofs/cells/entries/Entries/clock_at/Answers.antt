@@ -10,6 +10,3 @@ returns-in_default c =
     let entries = c.args.self.now in
     ap (option_map (λ (kept : Latest). kept.clock))
     (kept_none entries.angle c.args.key (pairs_of entries) entries.origins.items (c.in_default.ensures.none refl))
-
-pub returns : goal.returns
-returns c = ap (option_map (λ (kept : Latest). kept.clock)) c.kept_by.ensures

@@ -1,7 +1,4 @@
 use Rattle.drum_bound.proofs.cells.entries.Entries.keep.Goals as goal
 
-pub raise-requires-clause-there : goal.raise-requires-clause-there
-raise-requires-clause-there c = c.in-Some.ensures.found
-
 pub returns-in-Some-clause-keeps : goal.returns-in-Some-clause-keeps
 returns-in-Some-clause-keeps c = c.raise.ensures c.args.location c.args.counts

@@ -1,22 +1,14 @@
 -- A mark without a fault is the one that the table says.
-use Rattle.std.proofs.Common.{◌≡◌, ℕ, ◌+◌, ◌-◌, Bool, List, [], ◌∷◌, ◌∙◌, subst, sym, arith}
+use Rattle.std.proofs.Common.{◌≡◌, ℕ, ◌+◌, ◌-◌, Bool, List, ◌∷◌, ◌∙◌, subst, sym, arith, []}
 use Rattle.std.specs.Prelude.{codes}
 use Rattle.toml.specs.View.{table_view}
 use Rattle.drum_times.specs.EdgeOf.{edge_of}
-use Rattle.drum_toml.specs.Document.{at_key, missing_in}
+use Rattle.drum_toml.specs.Document.{at_key}
 use Rattle.drum_toml.specs.LongNotes as said
 use Rattle.drum_toml.proofs.Faultless.{each_none}
 use Rattle.drum_toml.proofs.LongFaultless.{long_mark_said, name_of, proper_name}
 use Rattle.drum_toml.proofs.NotesLaws.{has_same, same_number}
 use Rattle.drum_toml.proofs.notes.long_mark.LongMarkElement.read.Goals as goal
-
-pub read_mark_edges-requires-clause-wanted : goal.read_mark_edges-requires-clause-wanted
-read_mark_edges-requires-clause-wanted c =
-    let fields = table_view c.args.fields.now.table.now in
-    let each = each_none (said.long_mark_checks (table_view c.args.fields.now.whole.now) (c.args.place + 1)
-    c.args.fields.now.at.now fields) c.requires in
-    subst (λ (b : Bool). missing_in c.args.fields.now.at.now (said.wanted_keys b) fields ≡ []) (sym c.lists_edges.ensures)
-    each.1.0
 
 pub read_mark_edges-requires-clause-right : goal.read_mark_edges-requires-clause-right
 read_mark_edges-requires-clause-right c =
