@@ -95,7 +95,7 @@ fn draw_label(svg: &mut Svg, ring: Ring, word: Word, tallies: &Tallies) {
         draw_inside(svg, ring, word);
     } else if ring.height() >= BESIDE && has_room(ring, word.number, tallies) {
         draw_after(svg, ring, word.number);
-    } else {}
+    }
 }
 
 /// Writes the locations of the words of a ring, where there is room.

@@ -1,11 +1,11 @@
 //! The drawing of a scene, as an SVG document of bounded size. It is proved to be safe and to end,
 //! whatever is handed in; how it looks is no contract. docs/PICTURE.md says how it is read.
 //!
-//! Code. `drawing` has `draw`, which draws the whole, on `svg`, the document, which has the macro
-//! `draw` too: it appends pieces. `layout` says where the drawings stand. The drum is drawn by
-//! `drum`, ring by ring, with `word`, `labels`, `curves` and `beside` (8000 to 8003); `rings` says
-//! which bands have a ring, and how wide it is, and in `point` angles become points. The walk is
-//! drawn a revolution a row by `revolutions`, with `spans` (the parts of a hop; how wide a word
+//! Code. `drawing` has `draw`, which draws the whole. `svg` is the document, with the macro
+//! `draw!`, which appends pieces to it. `layout` says where the drawings stand. The drum is drawn
+//! by `drum`, ring by ring, with `word`, `labels`, `curves` and `beside` (8000 to 8003); `rings`
+//! says which bands have a ring, and how wide it is, and in `point` angles become points. The walk
+//! is drawn a revolution a row by `revolutions`, with `spans` (the parts of a hop; how wide a word
 //! time is, and how far apart the rows are) and `braces` (rounds of which one is shown). `page` has
 //! what stands around them: the heading, of a run with its `verdict`, and the keys. `bar` draws
 //! where the word times go, with their percentages. `ink` has the colours, and `scale` a share of a
