@@ -1,17 +1,9 @@
 -- Definitions evaluated, with answers that were worked out apart from them.
-use Rattle.std.proofs.Common.{◌≡◌, ◌≤◌, ℕ, false, List, [], ◌∷◌, ◌++◌, None, Some, refl, arith, lit≤, Vec, Global}
+use Rattle.std.proofs.Common.{◌≡◌, ℕ, false, List, [], ◌∷◌, ◌++◌, refl, lit≤, Vec, Global}
 use Rattle.std.specs.Prelude.{codes}
 use Rattle.std.specs.Fmt.{digits}
-use Rattle.drum_core.specs.declared.location.Location.{Location}
-use Rattle.drum_core.specs.declared.op.Op.{Op}
-use Rattle.drum_core.specs.declared.op.Op.TheVariants.{LoadDistributor}
-use Rattle.drum_core.specs.declared.parity.Parity.TheVariants.{Any}
 use Rattle.drum_core.specs.Instruction.{instruction_of}
-use Rattle.drum_core.specs.Location.{IsLocation}
 use Rattle.drum_core.specs.Word.{word}
-use Rattle.drum_times.specs.declared.entry.Entry.{Entry}
-use Rattle.drum_times.specs.Entries.{blank}
-use Rattle.drum_times.specs.declared.notes.mark.Mark.{Mark}
 use Rattle.drum_rotation.specs.Moment.{first}
 use Rattle.drum_machine.specs.declared.ways.Way.TheVariants as way
 use Rattle.drum_flow.specs.Longest.{longest}
@@ -21,41 +13,7 @@ use Rattle.drum_walks.specs.declared.piece.Placed.{Placed}
 use Rattle.drum_walks.specs.declared.piece.Rounds.{Rounds}
 use Rattle.drum_bracket.specs.CeilingText.{price_line, total_lines}
 use Rattle.drum_bracket.specs.RoundsText.{joined, tell}
-
-are_there : IsLocation 106 × IsLocation 100
-are_there = ((omega arith, λ past. omega arith), (omega arith, λ past. omega arith))
-
-abbrev target : Location
-target = record { number = 106; exists = are_there.0 }
-
-abbrev origin : Location
-origin = record { number = 100; exists = are_there.1 }
-
-few : 12 ≤ 9999
-few = omega arith
-
--- a mark without a name, and one with
-abbrev plain : Mark
-plain = record {
-  from = origin;
-  onto = target;
-  others = [];
-  most = 12;
-  inside = None;
-  name = None;
-  four_digits = few;
-}
-
-abbrev named : Mark
-named = record {
-  from = origin;
-  onto = target;
-  others = [];
-  most = 12;
-  inside = None;
-  name = Some (codes "cards");
-  four_digits = few;
-}
+use Rattle.drum_laws.proofs.SmallTable.{named, origin, plain, target, times}
 
 of_marks : (price_line plain 55 1 ≡ codes "mark 0100 0106 price 55 passed 1\n")
     × (price_line named 55 12 ≡ codes "mark 0100 0106 price 55 passed 12 name cards\n")
@@ -67,27 +25,6 @@ unfolding digits
 of_totals = refl
 
 -- ---- a walk with a loop in a loop
-
--- 69 takes three word times before it has its data and three after
-abbrev loading : Entry
-loading = record {
-  before = 3;
-  after = 3;
-  parity = Any;
-  per = 0;
-  wait_min = 0;
-  wait_max = 0;
-  some_before = lit≤ tt;
-  short_before = lit≤ tt;
-  short_after = lit≤ tt;
-  short_per = lit≤ tt;
-  waits = lit≤ tt;
-  short_wait = lit≤ tt;
-}
-
-abbrev times : Op → Entry
-times LoadDistributor = loading
-times _ = blank
 
 -- each of the two locations leads to the other, and both begin at angle 6 and take 50 word times
 abbrev there : Placed

@@ -1,71 +1,24 @@
 -- Definitions evaluated: a deck of two words, one of which loads the distributor and the other stops. A walk of it
 -- takes 56 word times, from start angle 1.
-use Rattle.std.proofs.Common.{◌≡◌, ℕ, ◌≤◌, false, List, [], ◌∷◌, refl, arith, Option, Some, None}
+use Rattle.std.proofs.Common.{◌≡◌, ℕ, false, List, [], ◌∷◌, refl, arith, Option, Some, None}
 use Rattle.std.specs.Prelude.{◌==◌, if◌then◌else◌}
-use Rattle.drum_core.specs.declared.op.Op.{Op}
-use Rattle.drum_core.specs.declared.parity.Parity.TheVariants.{Any}
 use Rattle.drum_core.specs.declared.word.Word.{Word}
 use Rattle.drum_core.specs.Instruction.{instruction_of}
 use Rattle.drum_rotation.specs.Moment.{first}
 use Rattle.drum_core.specs.Word.{word}
-use Rattle.drum_times.specs.declared.entry.Entry.{Entry}
 use Rattle.drum_times.specs.declared.notes.programmed.Programmed.TheVariants as switch
 use Rattle.drum_times.specs.Allowed.{Notes}
 use Rattle.drum_machine.specs.Ways.{to, late}
 use Rattle.drum_flow.specs.Hops.{hops}
 use Rattle.drum_flow.specs.Executed.{IsOrder}
 use Rattle.drum_flow.specs.Walk.{Setting, Taken, IsWalk, time_of}
+use Rattle.drum_laws.proofs.SmallTable.{times}
 
 abbrev loads : ℕ → Option Word
 loads n = if n == 100 then Some (word false 6901030106) else (if n == 106 then Some (word false 100000106) else None)
 
 abbrev notes : Notes
 notes = record { programmed = switch.Stop; load_cards = false; marks = []; lists = []; calls = [] }
-
-one_entry : (1 ≤ 3) × (3 ≤ 1000000) × (0 ≤ 1000000)
-one_entry = (omega arith, omega arith, omega arith)
-
-same : 0 ≤ 0
-same = omega arith
-
--- 69 takes 3 before and 3 after; the others are as 01
-abbrev loading : Entry
-loading = record {
-  before = 3;
-  after = 3;
-  parity = Any;
-  per = 0;
-  wait_min = 0;
-  wait_max = 0;
-  some_before = one_entry.0;
-  short_before = one_entry.1;
-  short_after = one_entry.1;
-  short_per = one_entry.2;
-  waits = same;
-  short_wait = one_entry.2;
-}
-
-from_one : (1 ≤ 1) × (1 ≤ 1000000)
-from_one = (omega arith, omega arith)
-
-abbrev stopping : Entry
-stopping = record {
-  before = 1;
-  after = 0;
-  parity = Any;
-  per = 0;
-  wait_min = 0;
-  wait_max = 0;
-  some_before = from_one.0;
-  short_before = from_one.1;
-  short_after = one_entry.2;
-  short_per = one_entry.2;
-  waits = same;
-  short_wait = one_entry.2;
-}
-
-abbrev times : Op → Entry
-times op = elim op [ Rattle.drum_core.specs.declared.op.Op.TheVariants.LoadDistributor ↦ loading | _ ↦ stopping ]
 
 abbrev setting : Setting
 setting = record { loads = loads; notes = notes; times = times; start = 100 }

@@ -1,15 +1,10 @@
 -- Definitions evaluated, with answers that were worked out apart from them.
-use Rattle.std.proofs.Common.{◌≡◌, ℕ, false, true, List, [], ◌∷◌, ◌++◌, replicate, refl, lit≤, Some, None, pos}
+use Rattle.std.proofs.Common.{◌≡◌, ℕ, false, true, List, [], ◌∷◌, ◌++◌, replicate, refl, Some, None, pos}
 use Rattle.std.specs.Prelude.{codes, slice_set}
 use Rattle.std.specs.Fmt.{digits}
-use Rattle.drum_core.specs.declared.op.Op.{Op}
-use Rattle.drum_core.specs.declared.op.Op.TheVariants.{LoadDistributor}
-use Rattle.drum_core.specs.declared.parity.Parity.TheVariants.{Any}
 use Rattle.drum_core.specs.declared.word.Word.{Word}
 use Rattle.drum_core.specs.Instruction.{instruction_of}
 use Rattle.drum_core.specs.Word.{word}
-use Rattle.drum_times.specs.declared.entry.Entry.{Entry}
-use Rattle.drum_times.specs.Entries.{blank}
 use Rattle.drum_rotation.specs.Moment.{first}
 use Rattle.drum_machine.specs.Run.{Stride}
 use Rattle.drum_machine.specs.Step.{State, step}
@@ -20,27 +15,7 @@ use Rattle.drum_hop_lines.specs.Moments.{later, moments_of}
 use Rattle.drum_hop_lines.specs.Pieces.{times_text}
 use Rattle.drum_hop_lines.specs.TraceText.{stride_lines}
 use Rattle.drum_hop_lines.specs.WalkText.{walk_text}
-
--- 69 takes three word times before it has its data and three after, all else one in all
-abbrev loading : Entry
-loading = record {
-  before = 3;
-  after = 3;
-  parity = Any;
-  per = 0;
-  wait_min = 0;
-  wait_max = 0;
-  some_before = lit≤ tt;
-  short_before = lit≤ tt;
-  short_after = lit≤ tt;
-  short_per = lit≤ tt;
-  waits = lit≤ tt;
-  short_wait = lit≤ tt;
-}
-
-abbrev times : Op → Entry
-times LoadDistributor = loading
-times _ = blank
+use Rattle.drum_laws.proofs.SmallTable.{times}
 
 -- the moments of a word at 0100, sought at once from angle 1
 abbrev moments : ℕ → Way → Moments

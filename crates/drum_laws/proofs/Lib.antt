@@ -28,6 +28,7 @@ mod Prefixes
 mod Refusals
 mod ReportChecks
 mod SmallMachine
+mod SmallTable
 mod ShortAreLong
 mod Silent
 mod Sizes

@@ -1,39 +1,14 @@
 -- The lines of waits evaluated, with answers that were worked out apart from the definitions.
-use Rattle.std.proofs.Common.{◌≡◌, false, [], ◌∷◌, ◌++◌, refl, lit≤}
+use Rattle.std.proofs.Common.{◌≡◌, false, [], ◌∷◌, ◌++◌, refl}
 use Rattle.std.specs.Prelude.{codes}
 use Rattle.std.specs.Fmt.{digits}
-use Rattle.drum_core.specs.declared.op.Op.{Op}
-use Rattle.drum_core.specs.declared.op.Op.TheVariants.{LoadDistributor}
-use Rattle.drum_core.specs.declared.parity.Parity.TheVariants.{Any}
 use Rattle.drum_core.specs.Instruction.{instruction_of}
 use Rattle.drum_core.specs.Word.{word}
-use Rattle.drum_times.specs.declared.entry.Entry.{Entry}
-use Rattle.drum_times.specs.Entries.{blank}
 use Rattle.drum_rotation.specs.Moment.{first}
 use Rattle.drum_machine.specs.Ways.{to, late}
 use Rattle.drum_walks.specs.Visited.{Visited}
 use Rattle.drum_hop_lines.specs.WaitsText.{waits_text}
-
--- 69 takes three word times before it has its data and three after, all else one in all
-abbrev loading : Entry
-loading = record {
-  before = 3;
-  after = 3;
-  parity = Any;
-  per = 0;
-  wait_min = 0;
-  wait_max = 0;
-  some_before = lit≤ tt;
-  short_before = lit≤ tt;
-  short_after = lit≤ tt;
-  short_per = lit≤ tt;
-  waits = lit≤ tt;
-  short_wait = lit≤ tt;
-}
-
-abbrev times : Op → Entry
-times LoadDistributor = loading
-times _ = blank
+use Rattle.drum_laws.proofs.SmallTable.{times}
 
 -- A walk from angle 1. 0106 is had at 5 and done at 6. 0100, which loads from 0102, is had at 49, can
 -- load from 52 on, has its data at 101 and is done at 104; again it is had at 149, has its data at

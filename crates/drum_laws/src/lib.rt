@@ -24,7 +24,8 @@
 //! Definitions evaluated, with answers that were worked out apart from them: `MachineChecks`
 //! (single steps with their times), `Effects` (what operations do) and `Marks` (counts), on the
 //! machine of `SmallMachine`; `WaitChecks`, the lines of waits; and one file for each of some other
-//! crates, `CoreChecks` that of `drum_core`.
+//! crates, `CoreChecks` that of `drum_core`. Several of them share the timing table and the marks
+//! of `SmallTable`.
 #![tactic(auto)]
 
 pub mod acceptance;

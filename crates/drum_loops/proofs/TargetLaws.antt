@@ -20,6 +20,11 @@ row_inside graph node k items is below =
     graph.within node (slice_index_or items k 0)
     (subst (λ (nodes : List ℕ). Contains nodes (slice_index_or items k 0)) is (Contains-get_or items k 0 below))
 
+-- so it has a rank
+pub row_ranked : (graph : Graph) (node k : ℕ) (items ranks : List ℕ) → items ≡ row graph node → k < length items
+    → length ranks ≡ size graph → slice_index_or items k 0 < length ranks
+row_ranked graph node k items ranks is below all = omega (arith, row_inside graph node k items is below, all)
+
 module _ (row ranks places : List ℕ) (node : ℕ) (before after : List ℕ) (next : ℕ)
     (added : AreAdded row ranks places node before after) where
   behind_longer : (onto : ℕ) → IsBehind row ranks places node onto → IsBehind (row ++ next ∷ []) ranks places node onto

@@ -7,7 +7,7 @@ use Rattle.drum_flow.specs.Flow.{nodes_of}
 use Rattle.drum_flow.specs.Found.{places_of}
 use Rattle.drum_flow.proofs.Orders.{place_at}
 use Rattle.drum_loops.specs.Closing.{places_in}
-use Rattle.drum_loops.proofs.TargetLaws.{row_inside}
+use Rattle.drum_loops.proofs.TargetLaws.{row_ranked}
 use Rattle.drum_loops.proofs.OneWays.{absent_at, ahead_absent, ahead_low, NoneAhead}
 use Rattle.drum_loops.proofs.one_way.leads_on.Goals as goal
 
@@ -15,20 +15,15 @@ pub offset_bounds-ranks-next : goal.offset_bounds-ranks-next
 offset_bounds-ranks-next c =
     omega (
       arith,
-      row_inside c.args.graph.now c.args.node c.loop-next.next-index c.row-next-items.result.now
-          c.row-next-items.ensures c.loop-next-test.true,
-      c.requires.ranks,
+      row_ranked c.args.graph.now c.args.node c.loop-next.next-index c.row-next-items.result.now c.args.ranks.now
+          c.row-next-items.ensures c.loop-next-test.true c.requires.ranks,
       c.type_inv.next-items c.loop-next.next-index,
     )
 
 pub bounds-ranks-next : goal.bounds-ranks-next
 bounds-ranks-next c =
-    omega (
-      arith,
-      row_inside c.args.graph.now c.args.node c.loop-next.next-index c.row-next-items.result.now
-          c.row-next-items.ensures c.loop-next-test.true,
-      c.requires.ranks,
-    )
+    row_ranked c.args.graph.now c.args.node c.loop-next.next-index c.row-next-items.result.now c.args.ranks.now
+    c.row-next-items.ensures c.loop-next-test.true c.requires.ranks
 
 pub loop-next-preserved-then-ranks-next : goal.loop-next-preserved-then-ranks-next
 loop-next-preserved-then-ranks-next c =
