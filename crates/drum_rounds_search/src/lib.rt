@@ -46,16 +46,35 @@ pub fn find(
     let Some(start) = rows.get(first) else {
         return Ok(Vec::new(alloc));
     };
+    // One place behind the start the search for it takes longest.
+    let angle = (u64::from(start.location.number) + 1) % REVOLUTION;
     let passings = Passings::of(alloc, rows, sites)?;
     let sources = Sources::of(alloc, rows, sites, first, &passings, marks)?;
     let mut walks = Walks::new(alloc)?;
-    let found = Loops::new(alloc, marks, &passings, &sources)?.longest(&mut walks)?;
-    let Some(whole) = found else {
-        return Ok(Vec::new(alloc));
-    };
-    let mut building = Building::new(alloc, times, rows, &sources, &walks);
-    // One place behind the start the search for it takes longest.
-    let angle = (u64::from(start.location.number) + 1) % REVOLUTION;
-    let built = building.build(whole, angle)?;
+    match longest(alloc, marks, &passings, &sources, &mut walks)? {
+        Some(walk) => build(
+            Building::new(alloc, times, rows, &sources, &walks),
+            walk,
+            angle,
+        ),
+        None => Ok(Vec::new(alloc)),
+    }
+}
+
+/// The longest walk that can be put together; none, where no walk was found.
+fn longest(
+    alloc: Global,
+    marks: &[Mark],
+    passings: &Passings,
+    sources: &Sources,
+    walks: &mut Walks,
+) -> Result<Option<usize>, AllocError> {
+    let loops = Loops::new(alloc, marks, passings, sources)?;
+    loops.longest(walks)
+}
+
+/// The pieces of a walk that begins at an angle.
+fn build(mut building: Building<'_>, walk: usize, angle: u64) -> Result<Vec<Piece>, AllocError> {
+    let built = building.build(walk, angle)?;
     building.finish(built)
 }

@@ -162,25 +162,45 @@ impl<'a> Loops<'a> {
     fn around(&mut self, mark: usize, walks: &mut Walks) -> Result<Table, AllocError> {
         let inner = self.all_taken(Some(mark))?;
         let inside = self.inside(&inner, walks)?;
-        let most = self.marks.get(mark).map_or(0, |mark| mark.most);
-        if most == 0 || walks.is_full() {
+        if self.most(mark) == 0 || walks.is_full() {
             return Ok(inside);
         }
         let passes = self.passes(mark, walks)?;
         let body = inside.join(self.alloc, &passes, walks)?;
-        if self.has_another(mark) {
-            let rounds = self.rounds(&body, most.saturating_sub(1), walks)?;
-            let behind = rounds.join(self.alloc, &inside, walks)?;
-            let parts = Parts {
-                inner,
-                passed: body.join(self.alloc, &rounds, walks)?,
-                onward: passes.join(self.alloc, &behind, walks)?,
-            };
-            if let Some(entry) = self.parts.get_mut(mark) {
-                *entry = Some(parts);
-            }
+        self.keep_parts(mark, inner, &inside, &passes, &body, walks)?;
+        self.in_rounds(self.most(mark), inside, &body, walks)
+    }
+
+    /// How often a mark is passed at most.
+    fn most(&self, mark: usize) -> u16 {
+        self.marks.get(mark).map_or(0, |mark| mark.most)
+    }
+
+    /// Keeps the parts of a mark's loop, where another one stands in it that isn't inside of it.
+    fn keep_parts(
+        &mut self,
+        mark: usize,
+        inner: Vec<Standing>,
+        inside: &Table,
+        passes: &Table,
+        body: &Table,
+        walks: &mut Walks,
+    ) -> Result<(), AllocError> {
+        if !self.has_another(mark) {
+            return Ok(());
         }
-        self.in_rounds(most, inside, &body, walks)
+        let rounds = self.rounds(body, self.most(mark).saturating_sub(1), walks)?;
+        let passed = body.join(self.alloc, &rounds, walks)?;
+        let behind = rounds.join(self.alloc, inside, walks)?;
+        let onward = passes.join(self.alloc, &behind, walks)?;
+        if let Some(entry) = self.parts.get_mut(mark) {
+            *entry = Some(Parts {
+                inner,
+                passed,
+                onward,
+            });
+        }
+        Ok(())
     }
 
     /// The loop of a mark, by what is inside of it, and by that with a pass behind it.
