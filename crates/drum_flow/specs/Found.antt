@@ -8,7 +8,7 @@ use Rattle.drum_flow.specs.Executed.{target_of}
 
 -- the numbers of the locations, in order
 abbrev pub places_of : LocationSet → List ℕ
-places_of executed = map (λ location. location.number) executed.locations.keys
+places_of executed = map (λ location. location.number) executed.locations.keys.items
 
 -- where ways go on
 abbrev pub targets_of : List Way → List ℕ

@@ -26,11 +26,11 @@ node_in calls nodes node = node_of calls nodes.openings.items node
 
 -- all of them, in order
 abbrev pub nodes_in : List Call → Nodes → List Node
-nodes_in calls nodes = map (node_of calls nodes.openings.items) nodes.nodes.keys
+nodes_in calls nodes = map (node_of calls nodes.openings.items) nodes.nodes.keys.items
 
 -- Each has what is open there, and no two of these are the same.
 pub record AreHeld (calls : List Call) (nodes : Nodes) : Type 0 where
-  pub within : (node : held.Node) → Contains nodes.nodes.keys node
+  pub within : (node : held.Node) → Contains nodes.nodes.keys.items node
       → node.opening < length nodes.openings.items
   pub different : AreDifferent (ways_in calls nodes.openings.items)
 

@@ -18,7 +18,7 @@ pub struct Flow<'a> {
     pub(crate) nodes: Nodes,
     pub(crate) executed: LocationSet,
     ghost held: { AreHeld notes.now.calls nodes } by { Prim.hlevel one_proof },
-    ghost few: { length nodes.nodes.keys ≤ 65536 },
+    ghost few: { length nodes.nodes.keys.items ≤ 65536 },
 }
 
 impl<'a> Flow<'a> {

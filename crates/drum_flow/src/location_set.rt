@@ -5,14 +5,14 @@ ghost use Rattle.drum_flow.specs.Executed.{with_new};
 ghost use Rattle.drum_flow.specs.Found.{places_of};
 
 use drum_core::Location;
-use indexmap::IndexSet;
+use drum_order::Distinct;
 use std::alloc::{AllocError, Global};
 
 /// Locations without repeats, in the order in which they are found: the executed ones, or the
 /// successors of one.
 #[derive(Debug, Drop)]
 pub struct LocationSet {
-    locations: IndexSet<Location>,
+    locations: Distinct<Location>,
 }
 
 impl LocationSet {
@@ -21,7 +21,7 @@ impl LocationSet {
         ensures { places_of result ≡ [] }
     {
         LocationSet {
-            locations: IndexSet::new(alloc),
+            locations: Distinct::none(alloc),
         }
     }
 
@@ -29,8 +29,8 @@ impl LocationSet {
     pub fn new(alloc: Global, start: Location) -> Result<LocationSet, AllocError>
         ensures { IfOk result (λ executed. places_of executed ≡ start.number ∷ []) }
     {
-        let mut locations = IndexSet::new(alloc);
-        locations.insert(start)?;
+        let mut locations = Distinct::none(alloc);
+        locations.add(start)?;
         Ok(LocationSet { locations })
     }
 
@@ -39,7 +39,7 @@ impl LocationSet {
         ensures { OnOk result (places_of self.new
             ≡ with_new (places_of self.old) (location.number ∷ [])) }
     {
-        self.locations.insert(location)?;
+        self.locations.add(location)?;
         Ok(())
     }
 
@@ -67,6 +67,6 @@ impl LocationSet {
             slice_get (places_of self.now) index ≡ Some location.number) }
         ensures none { IfNone result (¬ Contains (places_of self.now) location.number) }
     {
-        self.locations.get_index_of(&location)
+        self.locations.index_of(location)
     }
 }

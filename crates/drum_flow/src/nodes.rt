@@ -19,14 +19,14 @@ use crate::openings::{behind, index_behind};
 use drum_core::Location;
 use drum_deck::Deck;
 use drum_machine::Open;
+use drum_order::Distinct;
 use drum_times::{Call, Notes};
-use indexmap::IndexSet;
 use std::alloc::{AllocError, Global};
 
 /// Nodes without repeats, in the order in which they are found.
 #[derive(Debug, Drop)]
 pub struct Nodes {
-    nodes: IndexSet<Node>,
+    nodes: Distinct<Node>,
     openings: Vec<Open>,
 }
 
@@ -43,8 +43,8 @@ impl Nodes {
     {
         let mut openings = Vec::new(alloc);
         openings.push(Open::none())?;
-        let mut nodes = IndexSet::new(alloc);
-        nodes.insert(Node {
+        let mut nodes = Distinct::none(alloc);
+        nodes.add(Node {
             location: start,
             opening: 0,
         })?;
@@ -53,26 +53,23 @@ impl Nodes {
 
     /// The node at an index of the order, from 0; `None` past its end.
     pub fn get(&self, place: usize) -> Option<Node>
-        ensures value { option_map (λ node. node) result ≡ slice_get self.now.nodes.keys place }
+        ensures value { option_map (λ node. node) result ≡ slice_get self.now.nodes.keys.items place }
         ensures few { IfSome result (λ node. place < 2 ^ 63) }
     {
-        if place >= self.nodes.len() {
-            return None;
-        }
-        self.nodes.get_index(place).copied()
+        self.nodes.as_slice().get(place).copied()
     }
 
     /// How many there are.
     pub fn len(&self) -> usize
-        ensures { result ≡ length self.now.nodes.keys }
+        ensures { result ≡ length self.now.nodes.keys.items }
     {
         self.nodes.len()
     }
 
     /// The node at an index of the order, from 0.
     pub fn at(&self, index: usize) -> Node
-        requires { index < length self.now.nodes.keys }
-        ensures value { slice_get self.now.nodes.keys index ≡ Some result }
+        requires { index < length self.now.nodes.keys.items }
+        ensures value { slice_get self.now.nodes.keys.items index ≡ Some result }
         ensures different { (calls : List said.Call) → AreHeld calls self.now
             → AreDifferent (nodes_in calls self.now) }
     {
@@ -98,7 +95,7 @@ impl Nodes {
         let Ok(opening) = behind(&self.openings, calls, from.opening, from.location, onto) else {
             return None;
         };
-        self.nodes.get_index_of(&Node {
+        self.nodes.index_of(Node {
             location: onto,
             opening,
         })
@@ -122,7 +119,7 @@ impl Nodes {
         }
         let (before, from) = (from.opening, from.location);
         let opening = index_behind(&mut self.openings, calls, before, from, onto)?;
-        self.nodes.insert(Node {
+        self.nodes.add(Node {
             location: onto,
             opening,
         })?;
@@ -155,7 +152,7 @@ impl Nodes {
 
     /// The first of them, as many as a flow graph has at most.
     fn first(&self) -> &[Node]
-        ensures { result.now ≡ take 65536 self.now.nodes.keys }
+        ensures { result.now ≡ take 65536 self.now.nodes.keys.items }
     {
         let count = Nodes::MOST.min(self.nodes.len());
         &self.nodes.as_slice()[..count]

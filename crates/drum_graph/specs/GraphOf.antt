@@ -35,7 +35,7 @@ edge_in ends = (ends.from.number, ends.onto.number)
 
 -- the edges that close loops
 abbrev pub edges_in : Loops → List (ℕ × ℕ)
-edges_in loops = map edge_in loops.edges.keys
+edges_in loops = map edge_in loops.edges.keys.items
 
 abbrev pub loops_in : Graph → List (ℕ × ℕ)
 loops_in graph = edges_in graph.loops

@@ -5,8 +5,8 @@ ghost use Rattle.drum_graph.specs.GraphOf.{edges_in};
 ghost use Rattle.drum_graph.specs.GraphText.{is_loop};
 
 use drum_core::Location;
+use drum_order::Distinct;
 use drum_times::Edge;
-use indexmap::IndexSet;
 use std::alloc::{AllocError, Global};
 
 /// Where an edge leads from, and where it leads.
@@ -19,7 +19,7 @@ pub(crate) struct Ends {
 /// The edges that close the loops of a flow graph.
 #[derive(Debug, Drop)]
 pub(crate) struct Loops {
-    pub(crate) edges: IndexSet<Ends>,
+    pub(crate) edges: Distinct<Ends>,
 }
 
 impl Loops {
@@ -28,9 +28,9 @@ impl Loops {
         requires { AreApart (map edge_of edges.now) }
         ensures { IfOk result (λ loops. edges_in loops ≡ map edge_of edges.now) }
     {
-        let mut ends = IndexSet::new(alloc);
+        let mut ends = Distinct::none(alloc);
         for edge in edges {
-            ends.insert(Ends {
+            ends.add(Ends {
                 from: edge.from,
                 onto: edge.onto,
             })?;
@@ -42,6 +42,6 @@ impl Loops {
     pub(crate) fn have(&self, from: Location, onto: Location) -> bool
         ensures { result ≡ is_loop (edges_in self.now) from.number onto.number }
     {
-        self.edges.contains(&Ends { from, onto })
+        self.edges.contains(Ends { from, onto })
     }
 }

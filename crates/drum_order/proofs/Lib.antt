@@ -1,3 +1,4 @@
 pub mod Lists
 pub mod Members
+mod Positions
 pub mod Searches

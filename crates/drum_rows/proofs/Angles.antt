@@ -63,4 +63,4 @@ of_locations (one ∷ locations) place there =
     ]
 
 pub executed_location : (flow : Flow) (place : ℕ) → Contains (executed_in flow) place → IsLocation place
-executed_location flow place there = of_locations flow.executed.locations.keys place there
+executed_location flow place there = of_locations flow.executed.locations.keys.items place there

@@ -8,7 +8,7 @@ use Rattle.drum_rows.specs.declared.sites.Sites.{Sites}
 
 -- the sites, in the order of their numbers
 abbrev pub sites_in : Sites → List Site
-sites_in sites = sites.sites.keys
+sites_in sites = sites.sites.keys.items
 
 -- The site is that of a node at an angle at which its location is found.
 abbrev pub IsSiteOf : List Node → Site → Node → Type 0

@@ -6,7 +6,7 @@ ghost use Rattle.std.specs.Prelude.{slice_get, ◌⊎◌};
 use crate::found::is_found_at;
 use drum_core::{Location, REVOLUTION};
 use drum_flow::Flow;
-use indexmap::IndexSet;
+use drum_order::Distinct;
 use std::alloc::{AllocError, Global};
 
 /// A node of the flow graph, with an angle at which the instruction at its location is found.
@@ -21,7 +21,7 @@ pub struct Site {
 /// All sites of a flow graph, node by node, numbered from 0.
 #[derive(Debug, Drop)]
 pub struct Sites {
-    sites: IndexSet<Site>,
+    sites: Distinct<Site>,
 }
 
 impl Sites {
@@ -37,7 +37,7 @@ impl Sites {
         ensures { IfOk result (λ sites. AreSites (nodes_of flow.now) (sites_in sites)) }
     {
         let mut sites = Sites {
-            sites: IndexSet::new(alloc),
+            sites: Distinct::none(alloc),
         };
         for node in 0..flow.size() {
             sites.add(node, flow.location(node))?;
@@ -62,7 +62,7 @@ impl Sites {
             if !is_found_at(location, angle) {
                 continue;
             }
-            self.sites.insert(Site { node, angle })?;
+            self.sites.add(Site { node, angle })?;
         }
         Ok(())
     }
@@ -116,6 +116,6 @@ impl Sites {
         ensures none { IfNone result
             (¬ Contains (sites_in self.now) (record { node = node; angle = angle })) }
     {
-        self.sites.get_index_of(&Site { node, angle })
+        self.sites.index_of(Site { node, angle })
     }
 }

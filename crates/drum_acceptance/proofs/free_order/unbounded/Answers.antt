@@ -45,7 +45,7 @@ turned-requires-clause-few c =
       arith,
       few_below c.args.cycle.now (length (nodes_of flow)) c.requires.cycle.distinct inside,
       flow.few,
-      length-map flow.nodes.nodes.keys (node_of (notes_of flow).calls flow.nodes.openings.items),
+      length-map flow.nodes.nodes.keys.items (node_of (notes_of flow).calls flow.nodes.openings.items),
       those_long (nodes_of flow) c.args.cycle.now inside,
       ap (λ (ns : List ℕ). length ns) c.in-Ok.ensures,
       length-map (those_at (nodes_of flow) c.args.cycle.now) (λ (one : Node). one.place),

@@ -28,7 +28,7 @@ past_end xs k none =
 pub add_next-requires-clause-from : goal.add_next-requires-clause-from
 add_next-requires-clause-from c =
     c.loop-node.invariant.held.within c.in-Some.node
-    (contains_from_get c.loop-node.nodes.nodes.keys c.loop-node.turn c.in-Some.node (sym c.in-Some.ensures.value))
+    (contains_from_get c.loop-node.nodes.nodes.keys.items c.loop-node.turn c.in-Some.node (sym c.in-Some.ensures.value))
 
 pub loop-node-preserved : goal.loop-node-preserved
 loop-node-preserved c =
@@ -37,7 +37,7 @@ loop-node-preserved c =
     let nodes = c.loop-node.nodes in
     let view : held.Node → Node = node_of notes.calls nodes.openings.items in
     let here : slice_get (nodes_in notes.calls nodes) c.loop-node.turn ≡ Some (view c.in-Some.node) =
-    slice_get-map view nodes.nodes.keys c.loop-node.turn ∙ ap (option_map view) (sym c.in-Some.ensures.value) in
+    slice_get-map view nodes.nodes.keys.items c.loop-node.turn ∙ ap (option_map view) (sym c.in-Some.ensures.value) in
     record {
       after = found_next loads notes (start_in c.args.deck.now) c.loop-node.turn (view c.in-Some.node)
           (nodes_in notes.calls nodes) (nodes_in notes.calls c.add_next.new.self) c.loop-node.invariant.after here
@@ -45,7 +45,7 @@ loop-node-preserved c =
       held = c.in_ok-add_next.ensures.held;
       few = omega (
         arith,
-        slice_get_within nodes.nodes.keys c.loop-node.turn c.in-Some.node (sym c.in-Some.ensures.value),
+        slice_get_within nodes.nodes.keys.items c.loop-node.turn c.in-Some.node (sym c.in-Some.ensures.value),
         c.len.ensures,
         c.if-len-gt-MOST.false,
       );
@@ -64,13 +64,13 @@ whole loads notes start openings keys turn after none = record {
 pub returns : goal.returns
 returns c =
     let nodes = c.loop-node.nodes in (
-      whole (loads_in c.args.deck.now) c.args.notes.now (start_in c.args.deck.now) nodes.openings.items nodes.nodes.keys
+      whole (loads_in c.args.deck.now) c.args.notes.now (start_in c.args.deck.now) nodes.openings.items nodes.nodes.keys.items
           c.loop-node.turn c.loop-node.invariant.after (sym c.in_default.ensures.value),
       c.loop-node.invariant.held,
       omega (
         arith,
-        past_end nodes.nodes.keys c.loop-node.turn (sym c.in_default.ensures.value),
-        length-map nodes.nodes.keys (node_of c.args.notes.now.calls nodes.openings.items),
+        past_end nodes.nodes.keys.items c.loop-node.turn (sym c.in_default.ensures.value),
+        length-map nodes.nodes.keys.items (node_of c.args.notes.now.calls nodes.openings.items),
         c.loop-node.invariant.few,
       ),
     )

@@ -9,6 +9,6 @@ returns c =
     let flow = c.args.self.now in
     let view = node_in flow.notes.now.calls flow.nodes in (
       view c.at.result,
-      slice_get-map view flow.nodes.nodes.keys c.args.node ∙ ap (option_map view) c.at.ensures.value,
+      slice_get-map view flow.nodes.nodes.keys.items c.args.node ∙ ap (option_map view) c.at.ensures.value,
       refl,
     )

@@ -22,12 +22,12 @@ here : (c : goal.After-index_onward) → slice_get (nodes_of c.args.self.now) c.
 here c =
     let flow = c.args.self.now in
     let view = node_in flow.notes.now.calls flow.nodes in
-    slice_get-map view flow.nodes.nodes.keys c.args.node ∙ ap (option_map view) c.at.ensures.value
+    slice_get-map view flow.nodes.nodes.keys.items c.args.node ∙ ap (option_map view) c.at.ensures.value
 
 pub index_onward-requires-clause-from : goal.index_onward-requires-clause-from
 index_onward-requires-clause-from c =
     c.args.self.now.held.within c.at.result
-    (contains_from_get c.args.self.now.nodes.nodes.keys c.args.node c.at.result c.at.ensures.value)
+    (contains_from_get c.args.self.now.nodes.nodes.keys.items c.args.node c.at.result c.at.ensures.value)
 
 pub returns-clause-found : goal.returns-clause-found
 returns-clause-found c =

@@ -5,5 +5,5 @@ use Rattle.drum_flow.proofs.location_set.LocationSet.add.Goals as goal
 
 pub returns : goal.returns
 returns c =
-    ap numbers c.in_ok-insert.ensures.keys
-    ∙ numbers_added eq-value.it (λ a b. refl) c.args.self.now.locations.keys c.args.location
+    ap numbers c.in_ok-add.ensures.keys
+    ∙ numbers_added eq-value.it (λ a b. refl) c.args.self.now.locations.keys.items c.args.location

@@ -14,12 +14,12 @@ if_none (Some place) P all = tt
 
 pub returns-clause-found : goal.returns-clause-found
 returns-clause-found c =
-    if_some c.get_index_of.result _
-    (λ place e. one_found eq-value.it (λ a b. refl) c.args.self.now.locations.keys c.args.location place
-    (sym c.get_index_of.ensures.index ∙ e))
+    if_some c.index_of.result _
+    (λ place e. one_found eq-value.it (λ a b. refl) c.args.self.now.locations.keys.items c.args.location place
+    (sym c.index_of.ensures.index ∙ e))
 
 pub returns-clause-none : goal.returns-clause-none
 returns-clause-none c =
-    if_none c.get_index_of.result _
-    (λ e. none_found eq-value.it (λ a b. refl) c.args.self.now.locations.keys c.args.location
-    (sym c.get_index_of.ensures.found ∙ e))
+    if_none c.index_of.result _
+    (λ e. none_found eq-value.it (λ a b. refl) c.args.self.now.locations.keys.items c.args.location
+    (sym c.index_of.ensures.found ∙ e))

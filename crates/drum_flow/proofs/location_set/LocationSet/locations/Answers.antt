@@ -5,9 +5,9 @@ use Rattle.drum_flow.proofs.location_set.LocationSet.locations.Goals as goal
 
 pub returns-clause-different : goal.returns-clause-different
 returns-clause-different c =
-    numbers_different eq-value.it (λ a b. refl) c.args.self.now.locations.keys c.as_slice.ensures.unique
+    numbers_different eq-value.it (λ a b. refl) c.args.self.now.locations.keys.items c.as_slice.ensures.apart
 
 pub returns-clause-few : goal.returns-clause-few
 returns-clause-few c =
-    few_locations c.args.self.now.locations.keys
-    (numbers_different eq-value.it (λ a b. refl) c.args.self.now.locations.keys c.as_slice.ensures.unique)
+    few_locations c.args.self.now.locations.keys.items
+    (numbers_different eq-value.it (λ a b. refl) c.args.self.now.locations.keys.items c.as_slice.ensures.apart)

@@ -12,7 +12,7 @@ use Rattle.drum_flow.proofs.InNodesLaws.{none_onward, onward_added, ways_of_one,
 use Rattle.drum_flow.proofs.nodes.Nodes.add_onward.Goals as goal
 
 -- the index of what is open behind the step
-placed : (c : goal.In_ok-insert)
+placed : (c : goal.In_ok-add)
     → ArePlacedIn c.args.notes.now.calls c.args.self.now.openings.items c.index_behind.new.openings.items
     (open_after c.args.notes.now.calls (edge_between c.args.from.location.number c.args.onto.number)
     (node_in c.args.notes.now.calls c.args.self.now c.args.from).ways) c.in_ok-opening.opening
@@ -31,20 +31,20 @@ returns-clause-nodes c =
     let one = c.index.result.now in
     let may : MayGo calls (open_in one calls) edge =
     subst (λ (cs : List Call). MayGo cs (open_in one cs) edge) c.calls-calls.ensures.all c.if-not-may_go.ensures in
-    onward_added c.args.notes.now self.openings.items c.index_behind.new.openings.items self.nodes.keys
-    c.insert.new.self.keys c.args.from c.args.onto c.in_ok-opening.opening c.requires.held.different c.requires.held.within
+    onward_added c.args.notes.now self.openings.items c.index_behind.new.openings.items self.nodes.keys.items
+    c.add.new.self.keys.items c.args.from c.args.onto c.in_ok-opening.opening c.requires.held.different c.requires.held.within
     (subst (λ (ways : List (Option ℕ)). MayGo calls ways edge)
     (sym (ways_of_one calls self.openings.items c.args.from.opening one c.requires.from c.index.ensures)) may)
-    (placed c) c.in_ok-insert.ensures.keys
+    (placed c) c.in_ok-add.ensures.keys
 
 pub returns-clause-held : goal.returns-clause-held
 returns-clause-held c =
     let self = c.args.self.now in
     let is = placed c in
     record {
-      within = within_added c.args.notes.now.calls self.openings.items c.index_behind.new.openings.items self.nodes.keys
-          c.insert.new.self.keys (record { location = c.args.onto; opening = c.in_ok-opening.opening }) _
-          c.requires.held.within is c.in_ok-insert.ensures.keys;
+      within = within_added c.args.notes.now.calls self.openings.items c.index_behind.new.openings.items self.nodes.keys.items
+          c.add.new.self.keys.items (record { location = c.args.onto; opening = c.in_ok-opening.opening }) _
+          c.requires.held.within is c.in_ok-add.ensures.keys;
       different = is.different c.requires.held.different;
     }
 

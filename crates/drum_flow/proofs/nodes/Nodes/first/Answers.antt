@@ -5,7 +5,7 @@ use Rattle.drum_flow.proofs.nodes.Nodes.first.Goals as goal
 
 pub returns : goal.returns
 returns c =
-    let keys = c.args.self.now.nodes.keys in
+    let keys = c.args.self.now.nodes.keys.items in
     ap (λ (n : ℕ). take n c.as_slice.result.now) (c.min-count.ensures ∙ ap (min 65536) c.len.ensures.len)
     ∙ ap (λ (ns : List held.Node). take (min 65536 (length keys)) ns) c.as_slice.ensures.keys
     ∙ take_min 65536 keys

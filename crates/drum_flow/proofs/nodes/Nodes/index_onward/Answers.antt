@@ -84,10 +84,10 @@ returns-in_default-clause-none c next there onto =
     new.1
     (subst (λ (w : List (Option ℕ)). Contains (ways_in calls self.openings.items) w)
     (sym (ap (λ (n : Node). n.ways) same) ∙ sym new.0)
-    (ways_held calls self.openings.items c.requires.held.different self.nodes.keys next c.requires.held.within there))
+    (ways_held calls self.openings.items c.requires.held.different self.nodes.keys.items next c.requires.held.within there))
 
 -- what is open behind the step has this index
-placed : (c : goal.After-get_index_of) → (let node : Node = node_in c.args.notes.now.calls c.args.self.now c.args.from in
+placed : (c : goal.After-index_of) → (let node : Node = node_in c.args.notes.now.calls c.args.self.now c.args.from in
     slice_get (ways_in c.args.notes.now.calls c.args.self.now.openings.items) c.in-Ok.opening
     ≡ Some (open_after c.args.notes.now.calls (edge_between node.place c.args.onto.number) node.ways))
 placed c =
@@ -101,7 +101,7 @@ placed c =
     (slice_index_or (ways_in c.calls-calls.result.now os) c.args.from.opening []))) c.deref.ensures.value
     c.in-Ok.ensures.there)
 
-below : (c : goal.After-get_index_of) → c.in-Ok.opening < length c.args.self.now.openings.items
+below : (c : goal.After-index_of) → c.in-Ok.opening < length c.args.self.now.openings.items
 below c =
     let calls = c.args.notes.now.calls in
     let openings = c.args.self.now.openings.items in
@@ -112,7 +112,7 @@ below c =
     )
 
 -- the node that is looked for
-sought : (c : goal.After-get_index_of) → (let node : Node = node_in c.args.notes.now.calls c.args.self.now c.args.from in
+sought : (c : goal.After-index_of) → (let node : Node = node_in c.args.notes.now.calls c.args.self.now c.args.from in
     node_in c.args.notes.now.calls c.args.self.now (record { location = c.args.onto; opening = c.in-Ok.opening })
     ≡ record {
       place = c.args.onto.number;
@@ -131,11 +131,11 @@ returns-clause-found c =
     let calls = c.args.notes.now.calls in
     let self = c.args.self.now in
     let key : held.Node = record { location = c.args.onto; opening = c.in-Ok.opening } in
-    if_some c.get_index_of.result _
+    if_some c.index_of.result _
     (λ index e. (
       node_in calls self key,
-      held_found calls self.openings.items c.requires.held.different self.nodes.keys key index (below c)
-          c.requires.held.within (sym c.get_index_of.ensures.index ∙ e),
+      held_found calls self.openings.items c.requires.held.different self.nodes.keys.items key index (below c)
+          c.requires.held.within (sym c.index_of.ensures.index ∙ e),
       leads c.args.notes.now c.args.self.now c.args.from c.args.onto c.calls-calls.result.now c.index.result.now
           c.calls-calls.ensures.all c.requires.from c.index.ensures c.if-not-may_go.ensures ∙ ap (λ (n : Node). n ∷ []) (sym (sought c)),
     ))
@@ -145,9 +145,9 @@ returns-clause-none c =
     let calls = c.args.notes.now.calls in
     let self = c.args.self.now in
     let key : held.Node = record { location = c.args.onto; opening = c.in-Ok.opening } in
-    if_none c.get_index_of.result _
-    (λ e next there onto. held_absent calls self.openings.items c.requires.held.different self.nodes.keys key (below c)
-    c.requires.held.within (sym c.get_index_of.ensures.found ∙ e)
+    if_none c.index_of.result _
+    (λ e next there onto. held_absent calls self.openings.items c.requires.held.different self.nodes.keys.items key (below c)
+    c.requires.held.within (sym c.index_of.ensures.found ∙ e)
     (subst (λ (n : Node). Contains (nodes_in calls self) n)
     (sym (only_one _ next (subst (λ (ns : List Node). Contains ns next) (leads c.args.notes.now c.args.self.now c.args.from c.args.onto c.calls-calls.result.now c.index.result.now
     c.calls-calls.ensures.all c.requires.from c.index.ensures c.if-not-may_go.ensures) onto)) ∙ sym (sought c)) there))

@@ -17,7 +17,7 @@ each_more nodes node =
 
 pub loop-node-preserved : goal.loop-node-preserved
 loop-node-preserved c =
-    let keys = take 65536 c.args.self.now.nodes.keys in
+    let keys = take 65536 c.args.self.now.nodes.keys.items in
     let view : held.Node → Node = node_of c.args.calls.now c.args.self.now.openings.items in
     let k = c.loop-node.node-index in
     let node = c.node-item.result in
@@ -32,7 +32,7 @@ loop-node-preserved c =
 pub returns : goal.returns
 returns c =
     let view : held.Node → Node = node_of c.args.calls.now c.args.self.now.openings.items in
-    let keys = c.args.self.now.nodes.keys in
+    let keys = c.args.self.now.nodes.keys.items in
     c.loop-node.invariant
     ∙ ap (λ (ns : List held.Node). each_place (map view ns))
     (take_all c.loop-node.node-index (take 65536 keys)

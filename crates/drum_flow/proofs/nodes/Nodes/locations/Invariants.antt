@@ -8,4 +8,4 @@ use Rattle.drum_flow.proofs.nodes.Nodes.locations.Given as goal
 abbrev pub invariant-loop-node : goal.invariant-loop-node
 invariant-loop-node l =
     places_of l.executed
-    ≡ each_place (map (node_of l.fn.calls l.self.openings.items) (take l.node-index (take 65536 l.self.nodes.keys)))
+    ≡ each_place (map (node_of l.fn.calls l.self.openings.items) (take l.node-index (take 65536 l.self.nodes.keys.items)))

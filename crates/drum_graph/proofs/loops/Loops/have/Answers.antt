@@ -7,4 +7,4 @@ pub returns : goal.returns
 returns c =
     c.contains.ensures
     ∙ found_in_set eq-value.it (λ a b. refl) (record { from = c.args.from; onto = c.args.onto })
-    c.args.self.now.edges.keys
+    c.args.self.now.edges.keys.items

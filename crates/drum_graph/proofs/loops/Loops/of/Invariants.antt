@@ -5,4 +5,4 @@ use Rattle.drum_graph.proofs.loops.Loops.of.Given as goal
 
 -- the edges so far are held
 abbrev pub invariant-loop-edge : goal.invariant-loop-edge
-invariant-loop-edge l = map edge_in l.ends.keys ≡ take l.edge-index (map edge_of l.edges)
+invariant-loop-edge l = map edge_in l.ends.keys.items ≡ take l.edge-index (map edge_of l.edges)

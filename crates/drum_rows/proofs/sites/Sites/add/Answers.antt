@@ -12,7 +12,7 @@ loop-angle-preserved c =
     let before = sites_in c.loop-angle.self in
     let angle = c.loop-angle.angle in
     let key : Site = record { node = c.args.node; angle = angle } in
-    let keys = c.in_ok-insert.ensures.keys in
+    let keys = c.in_ok-add.ensures.keys in
     let is = c.loop-angle.invariant in
     record {
       kept = λ site there. subst (λ (all : List Site). Contains all site) (sym keys) (key_kept before key site (is.kept site there));
@@ -21,7 +21,7 @@ loop-angle-preserved c =
             (key_kept before key (record { node = c.args.node; angle = one }) (is.added one earlier at))
         | inr last ↦ (
             let same : angle ≡ one = omega (arith, high, last) in
-            subst (λ (a : ℕ). Contains c.insert.new.self.keys (record { node = c.args.node; angle = a })) same
+            subst (λ (a : ℕ). Contains c.add.new.self.keys.items (record { node = c.args.node; angle = a })) same
             (subst (λ (all : List Site). Contains all key) (sym keys) (key_added before key)))
       ];
       only = λ site there.

@@ -5,6 +5,6 @@ use Rattle.drum_rows.proofs.sites.Sites.number.Goals as goal
 
 pub returns-clause-found : goal.returns-clause-found
 returns-clause-found c =
-    if_some c.get_index_of.result _
+    if_some c.index_of.result _
     (λ k e. key_found (sites_in c.args.self.now) (record { node = c.args.node; angle = c.args.angle }) k
-    (sym c.get_index_of.ensures.index ∙ e))
+    (sym c.index_of.ensures.index ∙ e))
