@@ -7,6 +7,8 @@ use Rattle.drum_flow.specs.Bounded.{IsDeckAccepted}
 use Rattle.drum_flow.specs.Flow.{AreFound}
 use Rattle.drum_walks.specs.Visited.{Visited}
 use Rattle.drum_bound.specs.Table.{IsTable, Row}
+use Rattle.drum_rounds.specs.InRounds as walks
+use Rattle.drum_ceiling.specs.CeilingOf as ceilings
 use Rattle.drum_ceiling.specs.declared.bracket.Bracket.{Bracket}
 use Rattle.drum_loops.specs.Loops.{AreClosing}
 use Rattle.drum_command.specs.declared.command.Question.{Question}
@@ -29,6 +31,8 @@ use Rattle.drum_bracket.specs.CeilingText.{ceiling_text}
 use Rattle.drum_bracket.specs.RoundsText.{rounds_text}
 use Rattle.drum_bracket.specs.RoundsWaits.{rounds_waits_text}
 use Rattle.drum_bracket.specs.SpelledOut.{AreSpelledOut}
+use Rattle.drum_scene.specs.declared.walk.Kind.TheVariants.{InRounds, Worst}
+use Rattle.drum_drawing.specs.Heading.{IsHeaded}
 use Rattle.drum_documents.specs.declared.documents.Documents.{Documents}
 use Rattle.drum_documents.specs.Documents.{setting_of}
 use Rattle.drum_limits.specs.Limits.{AreShort, HaveNoBound, IsAnalysisFault, IsBound, IsBracket}
@@ -155,15 +159,18 @@ SaysOutline documents reply =
     × AreClosing (loads_in documents.deck) documents.notes (start_in documents.deck) loops
     × (reply ≡ outline_reply documents loops words)
 
--- a picture, where the deck with its notes is accepted; which one isn't said
+-- a picture that begins with the bound; what it shows isn't said
 abbrev pub SaysPicture : Documents → Reply → Type 0
 SaysPicture documents reply =
-    IsDeckAccepted (setting_of documents) × (picture : List ℕ) × (reply ≡ picture_reply picture)
+    (bound : ℕ) × IsBound documents bound
+    × (picture : List ℕ) × IsHeaded Worst bound picture × (reply ≡ picture_reply picture)
 
--- and where there is a walk in rounds
+-- and where there is none, one that begins with what a walk in rounds takes, and the ceiling
 abbrev pub SaysPictureInRounds : Documents → Bracket → Reply → Type 0
 SaysPictureInRounds documents bracket reply =
-    (picture : List ℕ) × (reply ≡ picture_reply picture)
+    (picture : List ℕ)
+    × IsHeaded (InRounds (ceilings.total_of bracket.ceiling)) (walks.total_of bracket.walk) picture
+    × (reply ≡ picture_reply picture)
 
 -- a ceiling with a walk in rounds, each of whose numbers is right
 abbrev pub SaysCeiling : Documents → Reply → Type 0

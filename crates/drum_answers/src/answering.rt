@@ -1,11 +1,11 @@
 //! The answers to questions about documents, each written to an output.
 
-ghost use Rattle.std.specs.Prelude.{◌≡◌, IfErr};
+ghost use Rattle.std.specs.Prelude.{◌≡◌, IfErr, IfOk, string_bytes};
 ghost use Rattle.drum_lines.specs.Does.{Does};
 ghost use Rattle.drum_devices.specs.Device.{Device};
 ghost use Rattle.drum_limits.specs.Limits.{HaveNoBound, IsAnalysisFault, IsBracket};
 ghost use Rattle.drum_limits.specs.Limits.{IsCeilingFault, IsDiscoveryFault};
-ghost use Rattle.drum_answers.specs.Basis.{IsBasis};
+ghost use Rattle.drum_answers.specs.Basis.{IsBasis, IsPictured};
 ghost use Rattle.drum_answers.specs.declared.basis.Basis.TheVariants as bases;
 ghost use Rattle.drum_answers.specs.Says.{ByEither, Refuses, Says, SaysBound};
 ghost use Rattle.drum_answers.specs.Says.{SaysCeiling, SaysGraph, SaysOutline, SaysPicture};
@@ -183,14 +183,16 @@ fn say_outline<O: Output>(
 }
 
 /// Draws a worst walk.
-fn picture_by(alloc: Global, documents: &Documents, basis: &Basis) -> Result<String, AllocError> {
+fn picture_by(alloc: Global, documents: &Documents, basis: &Basis) -> Result<String, AllocError>
+    ensures { IfOk result (λ picture. IsPictured basis.now (string_bytes picture)) }
+{
     let (deck, times) = (&documents.deck, &documents.times);
     match basis {
         Basis::Bound(analysis) => picture(alloc, analysis, deck, times),
-        Basis::Ceiling(Bracket { ceiling, walk }) => picture_in_rounds(
+        Basis::Ceiling(bracket) => picture_in_rounds(
             alloc,
-            walk,
-            ceiling.total(),
+            &bracket.walk,
+            bracket.ceiling.total(),
             deck,
             times,
             &documents.notes,

@@ -1,12 +1,16 @@
 //! The whole drawing.
 
+ghost use Rattle.std.specs.Prelude.{IfOk, string_bytes};
+ghost use Rattle.drum_drawing.specs.Heading.{IsHeaded};
+
 use crate::bar::draw_bar;
 use crate::beside::draw_beside;
 use crate::curves::draw_curves;
 use crate::drum::{draw_rim, draw_rings, draw_words};
+use crate::heading::begin;
 use crate::labels::draw_labels;
 use crate::layout::Layout;
-use crate::page::{begin, draw_drum_title, draw_rows_key, end};
+use crate::page::{draw_below_heading, draw_drum_title, draw_rows_key, end};
 use crate::revolutions::{draw_revolutions, draw_revolutions_title};
 use crate::rings::rings_of;
 use crate::svg::{Svg, draw};
@@ -39,17 +43,29 @@ fn draw_walk(svg: &mut Svg, scene: &Scene, layout: Layout) {
     }
 }
 
-/// The drawing of a scene.
+/// Draws all that stands behind the heading.
+fn draw_rest(alloc: Global, scene: &Scene, layout: Layout) -> Result<String, AllocError> {
+    let mut svg = Svg::new(alloc);
+    draw_below_heading(&mut svg, scene.walk);
+    draw_drum(alloc, &mut svg, scene)?;
+    draw_walk(&mut svg, scene, layout);
+    end(&mut svg);
+    svg.finish()
+}
+
+/// The drawing of a scene. It begins with what the walk takes, in words.
 ///
 /// # Errors
 ///
 /// [`AllocError`] where there is no memory.
-pub fn draw(alloc: Global, scene: &Scene) -> Result<String, AllocError> {
+pub fn draw(alloc: Global, scene: &Scene) -> Result<String, AllocError>
+    ensures { IfOk result (λ picture.
+        IsHeaded scene.now.walk.kind scene.now.walk.time (string_bytes picture)) }
+{
     let layout = Layout::of(&scene.rows, &scene.braces);
+    let rest = draw_rest(alloc, scene, layout)?;
     let mut svg = Svg::new(alloc);
     begin(&mut svg, scene.walk, layout);
-    draw_drum(alloc, &mut svg, scene)?;
-    draw_walk(&mut svg, scene, layout);
-    end(&mut svg);
+    svg.push(&rest);
     svg.finish()
 }

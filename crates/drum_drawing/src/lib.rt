@@ -1,15 +1,19 @@
 //! The drawing of a scene, as an SVG document of bounded size. It is proved to be safe and to end,
-//! whatever is handed in; how it looks is no contract. docs/PICTURE.md says how it is read.
+//! whatever is handed in, and to begin with what the walk takes, in words (`IsHeaded` of
+//! specs/Heading); how it looks is no contract. docs/PICTURE.md says how it is read.
 //!
 //! Code. `drawing` has `draw`, which draws the whole. `svg` is the document, with the macro
-//! `draw!`, which appends pieces to it. `layout` says where the drawings stand. The drum is drawn
+//! `draw!`, which appends pieces to it. `heading` begins it with what the walk takes. `layout` says
+//! where the drawings stand. The drum is drawn
 //! by `drum`, ring by ring, with `word`, `labels`, `curves` and `beside` (8000 to 8003); `rings`
 //! says which bands have a ring, and how wide it is, and in `point` angles become points. The walk
 //! is drawn a revolution a row by `revolutions`, with `spans` (the parts of a hop; how wide a word
 //! time is, and how far apart the rows are) and `braces` (rounds of which one is shown). `page` has
-//! what stands around them: the heading, of a run with its `verdict`, and the keys. `bar` draws
-//! where the word times go, with their percentages. `ink` has the colours, and `scale` a share of a
-//! length.
+//! what stands around them: the lines below the heading, of a run with its `verdict`, and the keys.
+//! `bar` draws where the word times go, with their percentages. `ink` has the colours, and `scale` a
+//! share of a length.
+//!
+//! Proofs. `Appending` puts together what is appended one behind the other.
 #![tactic(auto)]
 
 mod bar;
@@ -18,6 +22,7 @@ mod braces;
 mod curves;
 mod drawing;
 mod drum;
+mod heading;
 mod ink;
 mod labels;
 mod layout;

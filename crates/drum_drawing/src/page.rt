@@ -1,7 +1,7 @@
-//! What stands around the drawings: how the picture begins, its titles, and what its colours mean.
+//! What stands around the drawings: the style, the lines below the heading, the drawings' titles, and
+//! what the colours mean.
 
 use crate::ink::Ink;
-use crate::layout::Layout;
 use crate::rings::Ring;
 use crate::svg::{Svg, draw, four};
 use crate::verdict::write_verdict;
@@ -11,9 +11,8 @@ use drum_scene::{Kind, MOST_EDGES, Walk};
 /// The attributes of a drawing's title.
 pub const TITLE: &str = "font-size='15' font-weight='600'";
 
-/// How the picture goes on behind its size. What the style says of colours is for a dark page.
-const HEAD: &str = "font-family='system-ui, sans-serif' font-size='12' fill='#1b1b1b' role='img'>
-<style>
+/// What the picture is drawn with. What the style says of colours is for a dark page.
+const STYLE: &str = "<style>
 :root { background: #ffffff }
 .drum text { text-anchor: middle; pointer-events: none } .rows text { font-size: 9px }
 .drum .start { text-anchor: start } .drum .end { text-anchor: end }
@@ -105,46 +104,32 @@ fn draw_entries(svg: &mut Svg, entries: &[Entry]) {
     draw!(svg: "</g>\n");
 }
 
-/// Writes the title of the picture and its first line, here: how long the walk takes.
-fn draw_time(svg: &mut Svg, title: &str, name: &str, time: u128, base: u64) {
-    draw!(svg: "<title>" title ": " time " word times</title>\n");
-    draw!(svg: "<text font-size='27' font-weight='600' x='28' y='" base "'>");
-    draw!(svg: name " " time " word times</text>\n");
+/// Writes the verdict on a run.
+fn draw_verdict(svg: &mut Svg, verdict: &Verdict) {
+    draw!(svg: "<text " TITLE " x='29' y='64'>");
+    write_verdict(svg, verdict);
+    draw!(svg: "</text>\n");
 }
 
-/// Writes how long the walk takes, and its ceiling or its verdict. The next line stands here.
-fn draw_heading(svg: &mut Svg, walk: Walk) -> u64 {
-    match walk.kind {
-        Kind::Worst => {
-            draw_time(svg, "The worst walk", "bound", walk.time, 46);
-            70
-        }
-        Kind::InRounds(ceiling) => {
-            draw_time(svg, "A walk in rounds", "reached", walk.time, 40);
-            draw!(svg: "<text " TITLE " x='29' y='64'>ceiling " ceiling " word times</text>\n");
-            84
-        }
-        Kind::Run(verdict) => {
-            draw_time(svg, "A run", "run", walk.time, 40);
-            draw!(svg: "<text " TITLE " x='29' y='64'>");
-            write_verdict(svg, &verdict);
-            draw!(svg: "</text>\n");
-            84
-        }
-    }
-}
-
-/// Begins the picture, with its heading.
-pub fn begin(svg: &mut Svg, walk: Walk, layout: Layout) {
-    let (width, height) = (layout.width, layout.height);
-    draw!(svg: "<svg xmlns='http://www.w3.org/2000/svg' ");
-    draw!(svg: "viewBox='0 0 " width " " height "' ");
-    draw!(svg: HEAD);
-    draw!(svg: "<rect class='page' fill='#ffffff' width='" width "' height='" height "'/>\n");
-    let base = draw_heading(svg, walk);
+/// Writes how many milliseconds and revolutions a walk takes, at this height.
+fn draw_lengths(svg: &mut Svg, walk: Walk, base: u64) {
     let (time, revolutions) = (walk.milliseconds(), walk.revolutions());
     draw!(svg: "<text " (Ink::Faint) " x='29' y='" base "'>" time " milliseconds at 96 ");
     draw!(svg: "microseconds a word time, " revolutions " revolutions of the drum</text>\n");
+}
+
+/// Draws the style, and what stands below the heading: the verdict on a run, and how long the walk
+/// takes in other units.
+pub fn draw_below_heading(svg: &mut Svg, walk: Walk) {
+    draw!(svg: STYLE);
+    match walk.kind {
+        Kind::Worst => draw_lengths(svg, walk, 70),
+        Kind::InRounds(_) => draw_lengths(svg, walk, 84),
+        Kind::Run(verdict) => {
+            draw_verdict(svg, &verdict);
+            draw_lengths(svg, walk, 84);
+        }
+    }
 }
 
 /// Ends the picture.

@@ -1,5 +1,7 @@
 //! The document on its way, and what can stand in it.
 
+ghost use Rattle.std.specs.Prelude.{◌≡◌, IfOk, string_bytes};
+
 use drum_scene::Tenths;
 use itoa::{Buffer, Integer};
 use std::alloc::{AllocError, Global};
@@ -13,8 +15,13 @@ pub struct Svg {
 }
 
 impl Svg {
+    ghost use Rattle.std.specs.Prelude.{List, ℕ, []};
+    ghost use Rattle.drum_drawing.specs.Draws.{Draws, Says};
+
     /// An empty one.
-    pub fn new(alloc: Global) -> Svg {
+    pub fn new(alloc: Global) -> Svg
+        ensures { Says result [] }
+    {
         Svg {
             text: String::new(alloc),
             is_lost: false,
@@ -22,14 +29,24 @@ impl Svg {
     }
 
     /// Appends a text.
-    fn push(&mut self, text: &str) {
+    pub fn push(&mut self, text: &str)
+        ensures { Draws self.old self.new text.now }
+    {
         if !self.is_lost {
             self.is_lost = self.text.push_str(text).is_err();
         }
     }
 
+    /// Appends a whole number.
+    pub fn push_number<I: Integer>(&mut self, number: I)
+        ensures { Draws self.old self.new (I.text number) }
+    {
+        let mut buffer = Buffer::new();
+        self.push(buffer.format(number));
+    }
+
     /// Appends a whole number, with zeros before it where it has fewer digits than this.
-    fn push_number(&mut self, number: impl Integer, digits: usize) {
+    fn push_digits(&mut self, number: u64, digits: usize) {
         let mut buffer = Buffer::new();
         let text = buffer.format(number);
         for _ in text.len()..digits {
@@ -43,7 +60,9 @@ impl Svg {
     /// # Errors
     ///
     /// [`AllocError`] where there was no memory for a piece of it.
-    pub fn finish(self) -> Result<String, AllocError> {
+    pub fn finish(self) -> Result<String, AllocError>
+        ensures { (text : List ℕ) → Says self text → IfOk result (λ whole. string_bytes whole ≡ text) }
+    {
         if self.is_lost {
             Err(AllocError)
         } else {
@@ -66,39 +85,39 @@ impl Piece for &str {
 
 impl Piece for u64 {
     fn draw(self, svg: &mut Svg) {
-        svg.push_number(self, 0);
+        svg.push_number(self);
     }
 }
 
 impl Piece for u16 {
     fn draw(self, svg: &mut Svg) {
-        svg.push_number(self, 0);
+        svg.push_number(self);
     }
 }
 
 impl Piece for usize {
     fn draw(self, svg: &mut Svg) {
-        svg.push_number(self, 0);
+        svg.push_number(self);
     }
 }
 
 impl Piece for u128 {
     fn draw(self, svg: &mut Svg) {
-        svg.push_number(self, 0);
+        svg.push_number(self);
     }
 }
 
 impl Piece for i64 {
     fn draw(self, svg: &mut Svg) {
-        svg.push_number(self, 0);
+        svg.push_number(self);
     }
 }
 
 impl Piece for Tenths {
     fn draw(self, svg: &mut Svg) {
-        svg.push_number(self.count / 10, 0);
+        svg.push_number(self.count / 10);
         svg.push(".");
-        svg.push_number(self.count % 10, 0);
+        svg.push_number(self.count % 10);
     }
 }
 
@@ -111,7 +130,7 @@ pub struct Digits {
 
 impl Piece for Digits {
     fn draw(self, svg: &mut Svg) {
-        svg.push_number(self.number, self.digits);
+        svg.push_digits(self.number, self.digits);
     }
 }
 

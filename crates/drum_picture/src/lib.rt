@@ -1,6 +1,7 @@
 //! The picture of an analysis, of a ceiling, or of a run: the worst walk of the one, the walk in
 //! rounds beside the other, or the steps of the last, drawn as an SVG document of bounded size. It
-//! is proved to be safe and to end, whatever is handed in; how it looks is no contract.
+//! is proved to be safe and to end, whatever is handed in, and to begin with what the walk takes, in
+//! words; how it looks is no contract.
 //! docs/PICTURE.md says how it is read.
 //!
 //! Code. `pictures` has `picture`, `picture_in_rounds` and `picture_of_run`. Each finds what is
@@ -9,6 +10,8 @@
 //! step after the other. `hops` finds the revolutions that are shown in a list of hops. Of a walk
 //! in rounds `pieces` tells what each piece takes and how often it comes, and `going` goes through
 //! them, hop by hop.
+//!
+//! Proofs. `Headings` says what a picture begins with by what its walk was found in.
 #![tactic(auto)]
 
 mod going;

@@ -1,5 +1,9 @@
 //! What is drawn of an analysis: its worst walk.
 
+ghost use Rattle.std.specs.Prelude.{◌≡◌, IfOk};
+ghost use Rattle.drum_bound.specs.AnalysisOf.{bound_of};
+ghost use Rattle.drum_scene.specs.declared.walk.Kind.TheVariants.{Worst};
+
 use crate::hops::Hops;
 use drum_bound::Analysis;
 use drum_deck::Deck;
@@ -13,7 +17,10 @@ pub fn of_analysis(
     analysis: &Analysis,
     deck: &Deck,
     times: &Times,
-) -> Result<Scene, AllocError> {
+) -> Result<Scene, AllocError>
+    ensures kind { IfOk result (λ scene. scene.walk.kind ≡ Worst) }
+    ensures time { IfOk result (λ scene. scene.walk.time ≡ bound_of analysis.now) }
+{
     let walk = Walk {
         kind: Kind::Worst,
         angle: u64::from(analysis.angle()),

@@ -1,5 +1,9 @@
 //! What is drawn of a walk in rounds, beside a ceiling.
 
+ghost use Rattle.std.specs.Prelude.{◌≡◌, IfOk};
+ghost use Rattle.drum_rounds.specs.InRounds.{total_of};
+ghost use Rattle.drum_scene.specs.declared.walk.Kind.TheVariants as kinds;
+
 use crate::going::Going;
 use crate::pieces::{Content, Weighed, weigh};
 use drum_deck::Deck;
@@ -55,7 +59,10 @@ pub fn of_rounds(
     deck: &Deck,
     times: &Times,
     notes: &Notes,
-) -> Result<Scene, AllocError> {
+) -> Result<Scene, AllocError>
+    ensures kind { IfOk result (λ scene. scene.walk.kind ≡ kinds.InRounds ceiling) }
+    ensures time { IfOk result (λ scene. scene.walk.time ≡ total_of in_rounds.now) }
+{
     let walk = Walk {
         kind: Kind::InRounds(ceiling),
         angle: in_rounds.angle(),

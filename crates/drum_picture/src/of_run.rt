@@ -1,5 +1,8 @@
 //! What is drawn of a run.
 
+ghost use Rattle.std.specs.Prelude.{◌≡◌, IfOk};
+ghost use Rattle.drum_scene.specs.declared.walk.Kind.TheVariants as kinds;
+
 use crate::hops::Hops;
 use crate::run::Run;
 use drum_deck::Deck;
@@ -16,7 +19,10 @@ pub fn of_run(
     deck: &Deck,
     times: &Times,
     notes: &Notes,
-) -> Result<Scene, AllocError> {
+) -> Result<Scene, AllocError>
+    ensures kind { IfOk result (λ scene. scene.walk.kind ≡ kinds.Run verdict.now) }
+    ensures time { IfOk result (λ scene. scene.walk.time ≡ run.time) }
+{
     let Run {
         angle,
         kept,

@@ -1,5 +1,11 @@
 //! The whole picture.
 
+ghost use Rattle.std.specs.Prelude.{IfOk, string_bytes};
+ghost use Rattle.drum_bound.specs.AnalysisOf.{bound_of};
+ghost use Rattle.drum_rounds.specs.InRounds.{total_of};
+ghost use Rattle.drum_scene.specs.declared.walk.Kind.TheVariants as kinds;
+ghost use Rattle.drum_drawing.specs.Heading.{IsHeaded};
+
 use crate::of_analysis::of_analysis;
 use crate::of_rounds::of_rounds;
 use crate::of_run::of_run;
@@ -14,8 +20,9 @@ use std::alloc::{AllocError, Global};
 
 /// The picture of an analysis, an SVG document: the drum with the words of the deck and the edges
 /// of the worst walk between them, revolutions of the walk, and where all its word times go.
-/// It means something where the analysis is of this deck and timing table. No clause says what it
-/// is: that it is well-formed, and has 1,000,000 bytes at most, is tested.
+/// It means something where the analysis is of this deck and timing table. It begins with the bound,
+/// as its title and in large letters; no clause says what else it is. That it is well-formed, and
+/// has 1,000,000 bytes at most, is tested.
 ///
 /// # Errors
 ///
@@ -25,13 +32,17 @@ pub fn picture(
     analysis: &Analysis,
     deck: &Deck,
     times: &Times,
-) -> Result<String, AllocError> {
+) -> Result<String, AllocError>
+    ensures { IfOk result (λ picture.
+        IsHeaded kinds.Worst (bound_of analysis.now) (string_bytes picture)) }
+{
     draw(alloc, &of_analysis(alloc, analysis, deck, times)?)
 }
 
 /// The picture of a walk in rounds, beside a ceiling (in word times): the same, but that each piece
 /// of the walk is shown once, with its rounds beside it. It means something where the walk and the
-/// ceiling are of this deck with this timing table and these notes. No clause says what it is.
+/// ceiling are of this deck with this timing table and these notes. It begins with what the walk takes
+/// and the ceiling.
 ///
 /// # Errors
 ///
@@ -43,13 +54,16 @@ pub fn picture_in_rounds(
     deck: &Deck,
     times: &Times,
     notes: &Notes,
-) -> Result<String, AllocError> {
+) -> Result<String, AllocError>
+    ensures { IfOk result (λ picture.
+        IsHeaded (kinds.InRounds ceiling) (total_of walk.now) (string_bytes picture)) }
+{
     draw(alloc, &of_rounds(alloc, walk, ceiling, deck, times, notes)?)
 }
 
 /// The picture of a run with this verdict, of which all steps were taken in: the same as that of an
 /// analysis. It means something where the run is of this deck with this timing table, and was held
-/// to these notes. No clause says what it is.
+/// to these notes. It begins with what the run takes.
 ///
 /// # Errors
 ///
@@ -61,6 +75,9 @@ pub fn picture_of_run(
     deck: &Deck,
     times: &Times,
     notes: &Notes,
-) -> Result<String, AllocError> {
+) -> Result<String, AllocError>
+    ensures { IfOk result (λ picture.
+        IsHeaded (kinds.Run verdict.now) run.time (string_bytes picture)) }
+{
     draw(alloc, &of_run(alloc, run, verdict, deck, times, notes)?)
 }
