@@ -36,11 +36,13 @@ ceiling_line ceiling =
 -- What is said of a walk of this kind that takes so many word times: the title, and, on the page,
 -- the bound, or what a walk in rounds takes, with its ceiling, or what a run takes.
 abbrev pub heading : Kind → ℕ → List ℕ → List ℕ
-heading Worst time paper = title (codes "The worst walk") time ++ paper ++ large 46 (codes "bound") time
+heading Worst time paper =
+    title (codes "The worst walk") time ++ paper ++ large 46 (codes "bound") time
 heading (InRounds ceiling) time paper =
     title (codes "A walk in rounds") time ++ paper
     ++ large 40 (codes "reached") time ++ ceiling_line ceiling
-heading (Run verdict) time paper = title (codes "A run") time ++ paper ++ large 40 (codes "run") time
+heading (Run verdict) time paper =
+    title (codes "A run") time ++ paper ++ large 40 (codes "run") time
 
 -- a picture of some size begins with that
 abbrev pub IsHeaded : Kind → ℕ → List ℕ → Type 0

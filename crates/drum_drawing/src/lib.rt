@@ -4,14 +4,13 @@
 //!
 //! Code. `drawing` has `draw`, which draws the whole. `svg` is the document, with the macro
 //! `draw!`, which appends pieces to it. `heading` begins it with what the walk takes. `layout` says
-//! where the drawings stand. The drum is drawn
-//! by `drum`, ring by ring, with `word`, `labels`, `curves` and `beside` (8000 to 8003); `rings`
-//! says which bands have a ring, and how wide it is, and in `point` angles become points. The walk
-//! is drawn a revolution a row by `revolutions`, with `spans` (the parts of a hop; how wide a word
-//! time is, and how far apart the rows are) and `braces` (rounds of which one is shown). `page` has
-//! what stands around them: the lines below the heading, of a run with its `verdict`, and the keys.
-//! `bar` draws where the word times go, with their percentages. `ink` has the colours, and `scale` a
-//! share of a length.
+//! where the drawings stand. The drum is drawn by `drum`, ring by ring, with `word`, `labels`,
+//! `curves` and `beside` (8000 to 8003); `rings` says which bands have a ring, and how wide it is,
+//! and in `point` angles become points. The walk is drawn a revolution a row by `revolutions`, with
+//! `spans` (the parts of a hop; how wide a word time is, and how far apart the rows are) and
+//! `braces` (rounds of which one is shown). `page` has what stands around them: the lines below the
+//! heading, of a run with its `verdict`, and the keys. `bar` draws where the word times go, with
+//! their percentages. `ink` has the colours, and `scale` a share of a length.
 //!
 //! Proofs. `Appending` puts together what is appended one behind the other.
 #![tactic(auto)]

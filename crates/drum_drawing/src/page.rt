@@ -1,5 +1,5 @@
-//! What stands around the drawings: the style, the lines below the heading, the drawings' titles, and
-//! what the colours mean.
+//! What stands around the drawings: the style, the lines below the heading, the drawings' titles,
+//! and what the colours mean.
 
 use crate::ink::Ink;
 use crate::rings::Ring;

@@ -61,7 +61,8 @@ impl Svg {
     ///
     /// [`AllocError`] where there was no memory for a piece of it.
     pub fn finish(self) -> Result<String, AllocError>
-        ensures { (text : List ℕ) → Says self text → IfOk result (λ whole. string_bytes whole ≡ text) }
+        ensures { (text : List ℕ) → Says self text
+            → IfOk result (λ whole. string_bytes whole ≡ text) }
     {
         if self.is_lost {
             Err(AllocError)

@@ -53,7 +53,8 @@ impl Nodes {
 
     /// The node at an index of the order, from 0; `None` past its end.
     pub fn get(&self, place: usize) -> Option<Node>
-        ensures value { option_map (λ node. node) result ≡ slice_get self.now.nodes.keys.items place }
+        ensures value { option_map (λ node. node) result
+            ≡ slice_get self.now.nodes.keys.items place }
         ensures few { IfSome result (λ node. place < 2 ^ 63) }
     {
         self.nodes.as_slice().get(place).copied()

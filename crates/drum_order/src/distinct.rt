@@ -1,5 +1,5 @@
-ghost use Rattle.std.specs.Prelude.{◌≡◌, ◌++◌, ◌<◌, ◌^◌, [], ◌∷◌, OnErr, OnOk, is_some, position, length};
-ghost use Rattle.std.specs.Prelude.{if◌then◌else◌};
+ghost use Rattle.std.specs.Prelude.{◌≡◌, ◌++◌, ◌<◌, ◌^◌, [], ◌∷◌, OnErr, OnOk, is_some, position};
+ghost use Rattle.std.specs.Prelude.{if◌then◌else◌, length};
 ghost use Rattle.std.specs.List.{list_any, IsDistinct};
 ghost use Rattle.std.specs.HashMap.{get};
 ghost use Rattle.std.proofs.Props.{props};
@@ -9,10 +9,11 @@ use std::collections::HashMap;
 use std::fmt::{self, Debug, Formatter, Write};
 use std::hash::Hash;
 
-/// Values without repeats, each with its index in the order in which they were added.
+/// Values without repeats, each with its index in the order in which they were added, from 0.
 #[derive(Drop)]
 pub struct Distinct<K: Copy + Eq + Hash> {
     keys: Vec<K>,
+    /// The index of each.
     indices: HashMap<K, usize>,
     ghost agree: { (key : K) → get K.eq indices key ≡ position (K.eq key) keys.items },
     ghost apart: { IsDistinct K.eq keys.items } by { Prim.hlevel props },
@@ -30,6 +31,10 @@ impl<K: Copy + Eq + Hash> Distinct<K> {
     }
 
     /// Adds a value, unless it is there.
+    ///
+    /// # Errors
+    ///
+    /// [`AllocError`] where there is no memory.
     pub fn add(&mut self, key: K) -> Result<(), AllocError>
         ensures keys { OnOk result (self.new.keys.items
             ≡ (if list_any (K.eq key) self.old.keys.items then self.old.keys.items

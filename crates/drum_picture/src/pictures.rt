@@ -20,9 +20,9 @@ use std::alloc::{AllocError, Global};
 
 /// The picture of an analysis, an SVG document: the drum with the words of the deck and the edges
 /// of the worst walk between them, revolutions of the walk, and where all its word times go.
-/// It means something where the analysis is of this deck and timing table. It begins with the bound,
-/// as its title and in large letters; no clause says what else it is. That it is well-formed, and
-/// has 1,000,000 bytes at most, is tested.
+/// It means something where the analysis is of this deck and timing table. It begins with the
+/// bound, as its title and in large letters; no clause says what else it is. That it is
+/// well-formed, and has 1,000,000 bytes at most, is tested.
 ///
 /// # Errors
 ///
@@ -41,8 +41,8 @@ pub fn picture(
 
 /// The picture of a walk in rounds, beside a ceiling (in word times): the same, but that each piece
 /// of the walk is shown once, with its rounds beside it. It means something where the walk and the
-/// ceiling are of this deck with this timing table and these notes. It begins with what the walk takes
-/// and the ceiling.
+/// ceiling are of this deck with this timing table and these notes. It begins with what the walk
+/// takes and the ceiling.
 ///
 /// # Errors
 ///
