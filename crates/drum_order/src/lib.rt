@@ -1,5 +1,5 @@
-//! An order of a graph's nodes in which every edge goes on, or a cycle of it. It knows nothing of
-//! marks and hops.
+//! Values without repeats, and an order of a graph's nodes in which every edge goes on, or a cycle
+//! of it. It knows nothing of marks and hops.
 //!
 //! Code. `distinct` holds values without repeats, each with its index: nodes, or what stands for
 //! them. `graph` is a graph of numbered nodes. `search` is its depth-first search, one move a
