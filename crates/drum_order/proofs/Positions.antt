@@ -53,6 +53,11 @@ module _ {K : Type 0} (test : K → Bool) where
   pub position_there : (keys : List K) → is_some (position test keys) ≡ list_any test keys
   position_there keys = ap is_some (position_is keys) ∙ is_there 0 keys
 
+  -- whether it is there, by what was found
+  pub there_by : (keys : List K) (found : Option ℕ) (b : Bool) → found ≡ position test keys → is_some found ≡ b
+      → list_any test keys ≡ b
+  there_by keys found b same is = sym (position_there keys) ∙ ap is_some (sym same) ∙ is
+
   push_from : (index : ℕ) (keys : List K) (key : K) → position_from test index (keys ++ key ∷ [])
       ≡ or_else (position_from test index keys) (cond (test key) (Some (index + length keys)) None)
   push_from index [] key = ap (λ (n : ℕ). cond (test key) (Some n) None) (omega arith)

@@ -3,16 +3,15 @@ use Rattle.std.specs.Prelude.{is_some, is_err, if◌then◌else◌, position}
 use Rattle.std.specs.HashMap.{get}
 use Rattle.std.specs.List.{list_any, IsDistinct}
 use Rattle.std.proofs.lemmas.Map.Keys.{IsDistinct-push}
-use Rattle.drum_order.proofs.Positions.{agree_more, position_there}
+use Rattle.drum_order.proofs.Positions.{agree_more, there_by}
 use Rattle.drum_order.proofs.distinct.Distinct.add.Goals as goal
 
 pub returns-then-contains_key-clause-keys : goal.returns-then-contains_key-clause-keys
 returns-then-contains_key-clause-keys g c =
     let self = c.args.self.now in
     let eq = g.K.PartialEq.eq in
-    let there : list_any (eq c.args.key) self.keys.items ≡ true =
-    sym (position_there (eq c.args.key) self.keys.items) ∙ ap is_some (sym (self.agree c.args.key))
-    ∙ sym c.contains_key.ensures ∙ c.if-contains_key.true in
+    let there = there_by (eq c.args.key) self.keys.items (get eq self.indices c.args.key) true (self.agree c.args.key)
+    (sym c.contains_key.ensures ∙ c.if-contains_key.true) in
     sym (ap (λ (b : Bool). if b then self.keys.items else self.keys.items ++ c.args.key ∷ []) there)
 
 ok_of : {A E P : Type 0} (result : Result A E) → is_err result ≡ false → OnOk result P → P
@@ -25,8 +24,8 @@ invariant_of-self-else-is_err g c =
     let eq = g.K.PartialEq.eq in
     let absent : is_some (get eq self.indices c.args.key) ≡ false =
     sym c.contains_key.ensures ∙ c.if-contains_key.false in
-    let none : list_any (eq c.args.key) self.keys.items ≡ false =
-    sym (position_there (eq c.args.key) self.keys.items) ∙ ap is_some (sym (self.agree c.args.key)) ∙ absent in
+    let none = there_by (eq c.args.key) self.keys.items (get eq self.indices c.args.key) false (self.agree c.args.key)
+    absent in
     let updates = ok_of c.insert.result (sym c.is_err.ensures.value ∙ c.if-is_err.false) c.insert.ensures.updates in
     record {
       agree = λ one. subst (λ keys. get eq c.insert.new.self one ≡ position (eq one) keys) (sym c.in_ok-push.ensures.items)
@@ -40,9 +39,7 @@ pub returns-clause-keys : goal.returns-clause-keys
 returns-clause-keys g c =
     let self = c.args.self.now in
     let eq = g.K.PartialEq.eq in
-    let absent : is_some (get eq self.indices c.args.key) ≡ false =
-    sym c.contains_key.ensures ∙ c.if-contains_key.false in
-    let none : list_any (eq c.args.key) self.keys.items ≡ false =
-    sym (position_there (eq c.args.key) self.keys.items) ∙ ap is_some (sym (self.agree c.args.key)) ∙ absent in
+    let none = there_by (eq c.args.key) self.keys.items (get eq self.indices c.args.key) false (self.agree c.args.key)
+    (sym c.contains_key.ensures ∙ c.if-contains_key.false) in
     c.in_ok-push.ensures.items
     ∙ sym (ap (λ (b : Bool). if b then self.keys.items else self.keys.items ++ c.args.key ∷ []) none)
