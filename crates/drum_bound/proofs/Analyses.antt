@@ -16,8 +16,8 @@ use Rattle.drum_bound.specs.declared.keys.Keys.{Keys}
 use Rattle.drum_bound.specs.declared.latest.Latest.{Latest}
 use Rattle.drum_bound.specs.declared.scan.Scan.{Scan}
 use Rattle.drum_bound.specs.declared.worst.Worst.{Worst}
-use Rattle.drum_bound.specs.AnalysisOf.{IsAnalysis, ArePasses, bound_of, counts_in_all, passed_of, rows_of}
-use Rattle.drum_bound.specs.AnalysisOf.{turns_of, visits_of, words_of}
+use Rattle.drum_bound.specs.AnalysisOf.{IsAnalysis, ArePasses, angle_of, bound_of, counts_in_all}
+use Rattle.drum_bound.specs.AnalysisOf.{passed_of, rows_of, turns_of, visits_of, words_of}
 use Rattle.drum_bound.proofs.EntriesRaised.{are_raised}
 use Rattle.drum_bound.proofs.EntryEnds.{ends_of, are_ends, as_many_ends}
 use Rattle.drum_bound.specs.Counted.{CountsTableOf, turns_in}
@@ -28,6 +28,7 @@ use Rattle.drum_bound.specs.RowOf.{row_in}
 use Rattle.drum_bound.proofs.Rows.{AreRowsOf, is_table}
 use Rattle.drum_bound.proofs.RowSums.{rows_sum}
 use Rattle.drum_bound.proofs.RowsHeld.{held_rows}
+use Rattle.drum_bound.specs.OfCells.{IsOfCells}
 use Rattle.drum_bound.proofs.ShortWalks.{short_walk}
 use Rattle.drum_bound.specs.ScanOf.{AreCells, IsDone, setting_in}
 use Rattle.drum_bound.specs.Scanned.{Scanned, turns_below}
@@ -119,32 +120,37 @@ fifty words counts rows few =
     omega (arith, few, ap (λ (n : ℕ). n * counts) (mul_comm words 50), mul_assoc 50 words counts)
 
 -- An analysis of finished cells, and of their walk, is right.
-pub is_analysis : (g : Setting) (order : List ℕ) (analysis : Analysis) → IsOrdered g.loads g.notes g.start order
-    → g.start < 2000
-    → AreCells g order analysis.cells
-    → Scanned g order (keys_of g.notes.marks order) (keys_of g.notes.marks order) (kept_in analysis.cells)
-    analysis.cells.last
-    → analysis.cells.made ≡ turns_below g order (kept_in analysis.cells) (keys_of g.notes.marks order)
-    → IsWalkOf g (start_angle g.start) (analysis.cells.last.clock - start_angle g.start) (visits_of analysis)
+pub is_analysis : (g : Setting) (order : List ℕ) (cells : Cells) (analysis : Analysis) → IsOfCells cells analysis
+    → IsOrdered g.loads g.notes g.start order → g.start < 2000 → AreCells g order cells
+    → Scanned g order (keys_of g.notes.marks order) (keys_of g.notes.marks order) (kept_in cells) cells.last
+    → cells.made ≡ turns_below g order (kept_in cells) (keys_of g.notes.marks order)
+    → IsWalkOf g (start_angle g.start) (cells.last.clock - start_angle g.start) (visits_of analysis)
     → AreLongest g (start_angle g.start) (visits_of analysis)
     → ArePasses g.notes.marks (visits_of analysis) (passed_of analysis)
     → IsAnalysis g analysis
-is_analysis g order analysis ordered starts are s made walk longest passed =
-    let cells : Cells = analysis.cells in
+is_analysis g order cells analysis is_of ordered starts are s made walk longest passed =
     let last : Latest = cells.last in
     let rows : List Row = rows_of analysis in
+    let same : rows_in cells ≡ rows = ap (map row_in) (sym is_of.table) in
+    let words : words_of analysis ≡ length order = is_of.words ∙ are.words in
+    let counts : counts_in_all analysis ≡ counts_of g.notes.marks = is_of.counts ∙ are.counts in
+    let angle : angle_of analysis ≡ start_angle g.start = is_of.angle ∙ are.angle in
     let product : words_of analysis * counts_in_all analysis ≡ length order * counts_of g.notes.marks =
-    ap (λ (words : ℕ). words * counts_in_all analysis) are.words
-    ∙ ap (λ (counts : ℕ). length order * counts) are.counts in
-    let bound : bound_of analysis ≡ last.clock - start_angle g.start = ap (λ (n : ℕ). last.clock - n) are.angle in
-    let few : length rows ≤ words_of analysis * counts_in_all analysis = few_rows cells in
-    let turns : turns_of analysis ≡ turns_in g rows = rows_turns g order cells ordered starts are s made in
-    let table : IsTable g rows = rows_table g order cells ordered starts are s in
+    ap (λ (n : ℕ). n * counts_in_all analysis) words ∙ ap (λ (n : ℕ). length order * n) counts in
+    let product_in : words_of analysis * counts_in_all analysis ≡ cells.words * cells.counts =
+    ap (λ (n : ℕ). n * counts_in_all analysis) is_of.words ∙ ap (λ (n : ℕ). cells.words * n) is_of.counts in
+    let bound : bound_of analysis ≡ last.clock - start_angle g.start =
+    is_of.bound ∙ ap (λ (n : ℕ). last.clock - n) are.angle in
+    let few : length rows ≤ words_of analysis * counts_in_all analysis =
+    omega (arith, few_rows cells, ap (λ (all : List Row). length all) same, product_in) in
+    let turns : turns_of analysis ≡ turns_in g rows =
+    is_of.turns ∙ rows_turns g order cells ordered starts are s made ∙ ap (turns_in g) same in
+    let table : IsTable g rows = subst (IsTable g) same (rows_table g order cells ordered starts are s) in
     record {
       worst = subst (IsWorst g) (sym bound) (is_worst g order (kept_in cells) last ordered starts s);
-      walk = subst (λ (angle : ℕ). IsWalkOf g angle (bound_of analysis) (visits_of analysis)) (sym are.angle)
+      walk = subst (λ (n : ℕ). IsWalkOf g n (bound_of analysis) (visits_of analysis)) (sym angle)
           (subst (λ (n : ℕ). IsWalkOf g (start_angle g.start) n (visits_of analysis)) (sym bound) walk);
-      longest = subst (λ (angle : ℕ). AreLongest g angle (visits_of analysis)) (sym are.angle) longest;
+      longest = subst (λ (n : ℕ). AreLongest g n (visits_of analysis)) (sym angle) longest;
       table = table;
       few = few;
       fifty = fifty (words_of analysis) (counts_in_all analysis) (length rows) few;
@@ -156,12 +162,14 @@ is_analysis g order analysis ordered starts are s made walk longest passed =
             short_walk g order ordered angle
                 hops walk,
           );
-      counts = are.counts;
+      counts = counts;
       turns = turns;
       ends = (
         ends_of g rows,
         are_ends g rows table.apart,
-        are_raised g order (kept_in cells) last ordered starts s rows (are_rows g order cells ordered starts are s),
+        are_raised g order (kept_in cells) last ordered starts s rows
+            (subst (AreRowsOf g order (kept_in cells) (keys_of g.notes.marks order)) same
+            (are_rows g order cells ordered starts are s)),
         turns ∙ sym (as_many_ends g rows),
       );
       passed = passed;

@@ -1,7 +1,6 @@
 -- An analysis, as it is held, and when it is right.
-use Rattle.std.specs.Prelude.{◌≡◌, ℕ, ◌-◌, ◌*◌, ◌^◌, ◌<◌, ◌≤◌, List, length, map, slice_get}
+use Rattle.std.specs.Prelude.{◌≡◌, ℕ, ◌*◌, ◌^◌, ◌<◌, ◌≤◌, List, length, map, slice_get}
 use Rattle.std.specs.Prelude.{slice_index, Some}
-use Rattle.std.specs.Map.{values_of}
 use Rattle.drum_deck.specs.declared.deck.Deck.{Deck}
 use Rattle.drum_deck.specs.InDeck.{loads_in, start_in}
 use Rattle.drum_times.specs.declared.notes.mark.Mark.{Mark}
@@ -16,13 +15,11 @@ use Rattle.drum_flow.specs.Accepted.{counts_of, IsAccepted, IsFixed}
 use Rattle.drum_flow.specs.Bounded.{IsBounded}
 use Rattle.drum_flow.specs.SettingOf.{setting}
 use Rattle.drum_flow.specs.Walk.{Setting, Taken, IsWalk}
-use Rattle.drum_walks.specs.Visited.{Visited, AreInTime, AreLongest, IsWalkOf, passes_in}
+use Rattle.drum_walks.specs.Visited.{Visited, AreLongest, IsWalkOf, passes_in}
 use Rattle.drum_walks.specs.Visited.{seen_visit}
 use Rattle.drum_walks.specs.Worst.{IsWorst}
 use Rattle.drum_bound.specs.declared.analysis.Analysis.{Analysis}
-use Rattle.drum_bound.specs.declared.cells.Cells.{Cells}
 use Rattle.drum_bound.specs.Counted.{turns_in}
-use Rattle.drum_bound.specs.InEntries.{pairs_of}
 use Rattle.drum_bound.specs.Ends.{HopEnd, AreEnds, AreRaised}
 use Rattle.drum_bound.specs.RowOf.{row_in}
 use Rattle.drum_bound.specs.Table.{Row, IsTable}
@@ -30,15 +27,15 @@ use Rattle.drum_bound.specs.Under.{ArriveUnder}
 
 -- the bound, in word times
 abbrev pub bound_of : Analysis → ℕ
-bound_of analysis = analysis.cells.last.clock - analysis.cells.entries.angle
+bound_of analysis = analysis.bound
 
 -- the table of worst times
 abbrev pub rows_of : Analysis → List Row
-rows_of analysis = map row_in (values_of (pairs_of analysis.cells.entries))
+rows_of analysis = map row_in analysis.table.items
 
 -- the start angle of the walk
 abbrev pub angle_of : Analysis → ℕ
-angle_of analysis = analysis.cells.entries.angle
+angle_of analysis = analysis.angle
 
 -- the hops of the walk
 abbrev pub visits_of : Analysis → List Visited
@@ -46,15 +43,15 @@ visits_of analysis = map seen_visit analysis.walk.items
 
 -- how many counts the marks can have
 abbrev pub counts_in_all : Analysis → ℕ
-counts_in_all analysis = analysis.cells.counts
+counts_in_all analysis = analysis.counts
 
 -- how many locations are executed
 abbrev pub words_of : Analysis → ℕ
-words_of analysis = analysis.cells.words
+words_of analysis = analysis.words
 
 -- how many ends of hops were made
 abbrev pub turns_of : Analysis → ℕ
-turns_of analysis = analysis.cells.made
+turns_of analysis = analysis.turns
 
 -- how often the walk passes each mark, by its index in the notes
 abbrev pub passed_of : Analysis → List ℕ
@@ -65,14 +62,6 @@ abbrev pub ArePasses : List Mark → List Visited → List ℕ → Type 0
 ArePasses marks visits passed =
     (k : ℕ) (mark : Mark) → slice_get marks k ≡ Some mark
     → slice_index passed k ≡ passes_in mark visits
-
--- The walk takes as long as the latest end of these cells, from their start angle, in few hops.
-pub record Backs (cells : Cells) (visits : List Visited) : Type 0 where
-  pub in_time : AreInTime 0 visits (cells.last.clock - cells.entries.angle)
-  pub after : cells.entries.angle ≤ cells.last.clock
-  pub on_drum : cells.entries.angle < 50
-  pub below : cells.last.clock - cells.entries.angle < 2 ^ 50
-  pub few : length visits ≤ 4000000
 
 -- An analysis of the walks of a setting is right.
 pub record IsAnalysis (g : Setting) (analysis : Analysis) : Type 0 where

@@ -9,6 +9,7 @@ pub mod InEntries
 pub mod Keys
 pub mod KeysOf
 pub mod LeapOf
+pub mod OfCells
 pub mod RecentOf
 pub mod RoundOf
 pub mod RowOf

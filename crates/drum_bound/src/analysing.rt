@@ -34,7 +34,8 @@ fn analysis_by<'a, L: Ledger>(
     let leaps = keys.leaps(alloc, times)?;
     let scan = Scan::of(alloc, times, keys, &leaps, steps)?;
     let trace = scan.walk(alloc)?;
-    Ok(Analysis::of(scan.cells, trace.visits, trace.passed))
+    let analysis = Analysis::of(alloc, scan.cells, trace.visits, trace.passed)?;
+    Ok(analysis)
 }
 
 /// The analysis of an accepted flow.

@@ -1,54 +1,72 @@
 //! What an analysis hands out: the bound, the table of worst times, and a walk.
 
-ghost use Rattle.std.specs.Prelude.{◌≡◌, ◌-◌, ◌^◌, ◌<◌, ◌≤◌, length, map};
+ghost use Rattle.std.specs.Prelude.{◌≡◌, ◌^◌, ◌<◌, ◌≤◌, length, map};
 ghost use Rattle.drum_walks.specs.Visited.{AreInTime, seen_visit};
 
 use crate::cells::Cells;
 use crate::worst::Worst;
 use drum_times::Mark;
 use drum_walks::Visit;
+use std::alloc::{AllocError, Global};
 
 /// What [`analyse`](crate::analyse) finds for a deck with its timing table and notes. The hops of
 /// its walk follow one another in time, from 0 to the bound, and are 4,000,000 at most.
 ///
-/// Its table is the one that was raised, entry by entry, by ends of hops: bound, table and turns
-/// are read from it.
+/// Bound, table and turns are those of the table that was raised, entry by entry, by ends of hops;
+/// it is given up for them.
 #[derive(Debug, Drop)]
 pub struct Analysis {
-    cells: Cells,
+    table: Vec<Worst>,
+    bound: u64,
+    /// The start angle of the walk.
+    angle: u8,
+    words: usize,
+    counts: usize,
+    turns: u64,
     walk: Vec<Visit>,
     /// How often the walk passes each mark, by the marks' indices in the notes; what stands past
     /// the last mark means nothing.
     passed: [u64; Mark::MOST],
-    ghost in_time: { ∥ AreInTime 0 (map seen_visit walk.items)
-        (cells.last.clock - cells.entries.angle) ∥₁ },
-    ghost after: { cells.entries.angle ≤ cells.last.clock },
-    ghost on_drum: { cells.entries.angle < 50 },
-    ghost below: { cells.last.clock - cells.entries.angle < 2 ^ 50 },
+    ghost in_time: { ∥ AreInTime 0 (map seen_visit walk.items) bound ∥₁ },
+    ghost below: { bound < 2 ^ 50 },
     ghost few: { length walk.items ≤ 4000000 },
 }
 
 impl Analysis {
-    ghost use Rattle.std.specs.Prelude.{slice_index};
-    ghost use Rattle.drum_bound.specs.AnalysisOf.{Backs, angle_of, bound_of, counts_in_all};
-    ghost use Rattle.drum_bound.specs.AnalysisOf.{passed_of, rows_of, turns_of, visits_of};
-    ghost use Rattle.drum_bound.specs.AnalysisOf.{words_of};
+    ghost use Rattle.std.specs.Prelude.{IfOk, slice_index};
+    ghost use Rattle.drum_bound.specs.AnalysisOf.{angle_of, bound_of, counts_in_all, passed_of};
+    ghost use Rattle.drum_bound.specs.AnalysisOf.{rows_of, turns_of, visits_of, words_of};
+    ghost use Rattle.drum_bound.specs.OfCells.{Backs, IsOfCells};
     ghost use Rattle.drum_bound.specs.RowOf.{row_in};
 
-    /// The analysis of a table, which it keeps as it was raised, with a walk that takes as long as
-    /// its latest end, and how often that passes each mark. (That the table is finished and the
-    /// walk is one is said by who calls this.)
-    pub(crate) fn of(cells: Cells, walk: Vec<Visit>, passed: [u64; Mark::MOST]) -> Analysis
+    /// The analysis of a table as it was raised, with a walk that takes as long as its latest end,
+    /// and how often that passes each mark. (That the table is finished and the walk is one is said
+    /// by who calls this.)
+    pub(crate) fn of(
+        alloc: Global,
+        cells: Cells,
+        walk: Vec<Visit>,
+        passed: [u64; Mark::MOST],
+    ) -> Result<Analysis, AllocError>
         requires { Backs cells (map seen_visit walk.items) }
-        ensures cells { result.cells ≡ cells }
-        ensures walk { result.walk ≡ walk }
-        ensures passed { result.passed ≡ passed }
+        ensures cells { IfOk result (IsOfCells cells) }
+        ensures walk { IfOk result (λ analysis. analysis.walk ≡ walk) }
+        ensures passed { IfOk result (λ analysis. analysis.passed ≡ passed) }
     {
-        Analysis {
-            cells,
+        let angle = cells.angle();
+        let bound = cells.last().clock - angle;
+        let (words, counts, turns) = (cells.words(), cells.counts(), cells.made());
+        let table = cells.into_table(alloc)?;
+        Ok(Analysis {
+            table,
+            bound,
+            angle: angle as u8,
+            words,
+            counts,
+            turns,
             walk,
             passed,
-        }
+        })
     }
 
     /// The bound, in word times, below 2^50: no run that keeps to the notes ever uses more, and
@@ -57,7 +75,7 @@ impl Analysis {
         ensures told { result ≡ bound_of self.now }
         ensures below { result < 2 ^ 50 }
     {
-        self.cells.last().clock - self.cells.angle()
+        self.bound
     }
 
     /// The table of worst times: one entry for each location and counts of the marks that some walk
@@ -65,14 +83,14 @@ impl Analysis {
     pub fn table(&self) -> &[Worst]
         ensures { map row_in result.now ≡ rows_of self.now }
     {
-        self.cells.entries()
+        &self.table
     }
 
     /// The drum's angle when the walk of [`walk`](Analysis::walk) begins, 0 to 49.
     pub fn angle(&self) -> u8
         ensures { result ≡ angle_of self.now }
     {
-        self.cells.angle() as u8
+        self.angle
     }
 
     /// The hops of a walk that uses exactly as many word times as the bound, in order: 4,000,000 at
@@ -89,14 +107,14 @@ impl Analysis {
     pub fn counts(&self) -> usize
         ensures { result ≡ counts_in_all self.now }
     {
-        self.cells.counts()
+        self.counts
     }
 
     /// How many locations are executed, 1 to 2004.
     pub fn words(&self) -> usize
         ensures { result ≡ words_of self.now }
     {
-        self.cells.words()
+        self.words
     }
 
     /// How many ends of hops the analysis has made: for each entry of the table as many as its
@@ -104,7 +122,7 @@ impl Analysis {
     pub fn turns(&self) -> u64
         ensures { result ≡ turns_of self.now }
     {
-        self.cells.made()
+        self.turns
     }
 
     /// How often the whole walk passes the mark with this index in the notes, from 0, whatever the

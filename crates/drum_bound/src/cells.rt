@@ -35,7 +35,7 @@ pub struct Onto {
 ///
 /// What raises is the end of a hop that is made in the same call, from the clock that the hop's key
 /// keeps: no other module asks for an [`End`].
-#[derive(Debug, Drop)]
+#[derive(Drop)]
 pub struct Cells {
     entries: Entries,
     /// Whether something is kept at a key of a round, by the rounds' numbers.
@@ -117,11 +117,11 @@ impl Cells {
         self.entries.kept_at(key as u32, near)
     }
 
-    /// The entries: one of each key at which something is kept.
-    pub fn entries(&self) -> &[Worst]
-        ensures { result.now ≡ values_of (pairs_of self.now.entries) }
+    /// The entries: one of each key at which something is kept. All else that is kept is given up.
+    pub fn into_table(self, alloc: Global) -> Result<Vec<Worst>, AllocError>
+        ensures { IfOk result (λ table. table.items ≡ values_of (pairs_of self.entries)) }
     {
-        self.entries.table()
+        self.entries.into_table(alloc)
     }
 
     /// The latest end of all that no full mark bars; before there is one, the moment of the start.

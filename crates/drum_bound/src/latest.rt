@@ -6,7 +6,7 @@ ghost use Rattle.drum_bound.specs.Scanned.{later};
 use crate::key_hop::KeyHop;
 
 /// The latest of some ends of hops, or the moment of the start.
-#[derive(Clone, Copy, Debug, PartialEq, Eq)]
+#[derive(Clone, Copy)]
 pub struct Latest {
     /// Its clock: word times from a moment of angle 0 on.
     pub clock: u64,

@@ -17,7 +17,7 @@ const MANY: usize = 65_536;
 
 /// An entry of the table for each key at which something is kept, in the order in which the keys
 /// were first led to, and where its time comes from.
-#[derive(Debug, Drop)]
+#[derive(Drop)]
 pub struct Entries {
     table: IndexMap<u32, Worst, BuildHasherDefault<KeyHasher>>,
     /// Where each entry's time comes from. The start's comes from its own key, which no hop does.
@@ -80,10 +80,19 @@ impl Entries {
     }
 
     /// The entries: one of each key at which something is kept.
-    pub fn table(&self) -> &[Worst]
+    fn table(&self) -> &[Worst]
         ensures { result.now ≡ values_of (pairs_of self.now) }
     {
         self.table.values().as_slice()
+    }
+
+    /// The entries, as a list that no map goes along with. Where their times come from is given up
+    /// first.
+    pub fn into_table(self, alloc: Global) -> Result<Vec<Worst>, AllocError>
+        ensures { IfOk result (λ table. table.items ≡ values_of (pairs_of self)) }
+    {
+        drop(self.origins);
+        Vec::from_slice(alloc, self.table.values().as_slice())
     }
 
     /// The start angle, 0 to 49.

@@ -11,11 +11,7 @@ use Rattle.drum_bound.specs.declared.analysis.Analysis.{Analysis}
 use Rattle.drum_bound.specs.declared.cells.Cells.{Cells}
 use Rattle.drum_bound.specs.declared.keys.Keys.{Keys}
 use Rattle.drum_bound.specs.AnalysisOf.{ArePasses}
-use Rattle.drum_bound.specs.InCells.{kept_in}
-use Rattle.drum_bound.specs.Keys.{keys_of}
 use Rattle.drum_bound.specs.KeysOf.{marks_in, setting_of}
-use Rattle.drum_bound.specs.ScanOf.{AreCells}
-use Rattle.drum_bound.specs.Scanned.{turns_below, Scanned}
 use Rattle.drum_bound.specs.Table.{start_angle}
 use Rattle.drum_bound.proofs.Analyses.{IsFound, is_found, is_analysis, last_after}
 use Rattle.drum_bound.proofs.InTime.{walk_in_time}
@@ -63,24 +59,15 @@ returns-clause-is v c =
     let is : IsFound keys times cells visits =
     is_found keys times c.in_ok-scan.scan visits c.in_ok-scan.ensures.keys c.in_ok-scan.ensures.times
     c.in_ok-scan.ensures.done c.in_ok-trace.ensures.walk c.in_ok-trace.ensures.longest in
-    let analysis : Analysis = c.of-2.result in
+    let analysis : Analysis = c.in_ok-analysis.analysis in
     let own : ArePasses g.notes.marks visits c.in_ok-trace.trace.passed =
     subst (λ (one : Keys). ArePasses (marks_in one) visits c.in_ok-trace.trace.passed) c.in_ok-scan.ensures.keys
     c.in_ok-trace.ensures.passed in
-    let same : c.of-2.result.cells ≡ cells = c.of-2.ensures.cells in
-    let walked : map seen_visit c.of-2.result.walk.items ≡ visits =
-    ap (λ (walk : Vec Visit Global). map seen_visit walk.items) c.of-2.ensures.walk in
-    is_analysis g order analysis c.requires.ordered.0 (deck_of keys.accepted.now.flow).on_drum
-    (subst (AreCells g order) (sym same) is.are)
-    (subst (λ (all : Cells).
-    Scanned g order (keys_of g.notes.marks order) (keys_of g.notes.marks order) (kept_in all) all.last) (sym same)
-    is.scanned)
-    (subst (λ (all : Cells). all.made ≡ turns_below g order (kept_in all) (keys_of g.notes.marks order))
-    (sym same) is.turns)
-    (subst (λ (all : Cells).
-    IsWalkOf g (start_angle g.start) (all.last.clock - start_angle g.start)
-    (map seen_visit c.of-2.result.walk.items)) (sym same)
-    (subst (IsWalkOf g (start_angle g.start) (cells.last.clock - start_angle g.start)) (sym walked) is.walk))
+    let walked : map seen_visit analysis.walk.items ≡ visits =
+    ap (λ (walk : Vec Visit Global). map seen_visit walk.items) c.in_ok-analysis.ensures.walk in
+    is_analysis g order cells analysis c.in_ok-analysis.ensures.cells c.requires.ordered.0
+    (deck_of keys.accepted.now.flow).on_drum is.are is.scanned is.turns
+    (subst (IsWalkOf g (start_angle g.start) (cells.last.clock - start_angle g.start)) (sym walked) is.walk)
     (subst (AreLongest g (start_angle g.start)) (sym walked) is.longest)
-    (subst (λ (all : List Visited). ArePasses g.notes.marks all c.of-2.result.passed) (sym walked)
-    (subst (λ (all : List ℕ). ArePasses g.notes.marks visits all) (sym c.of-2.ensures.passed) own))
+    (subst (λ (all : List Visited). ArePasses g.notes.marks all analysis.passed) (sym walked)
+    (subst (λ (all : List ℕ). ArePasses g.notes.marks visits all) (sym c.in_ok-analysis.ensures.passed) own))
