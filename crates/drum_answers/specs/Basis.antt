@@ -1,10 +1,5 @@
 -- What a worst walk of documents is told by.
-use Rattle.std.specs.Prelude.{ℕ, List}
 use Rattle.drum_bound.specs.AnalysisOf.{angle_of, bound_of, visits_of}
-use Rattle.drum_rounds.specs.InRounds as walks
-use Rattle.drum_ceiling.specs.CeilingOf as ceilings
-use Rattle.drum_scene.specs.declared.walk.Kind.TheVariants.{InRounds, Worst}
-use Rattle.drum_drawing.specs.Heading.{IsHeaded}
 use Rattle.drum_documents.specs.declared.documents.Documents.{Documents}
 use Rattle.drum_limits.specs.Limits.{AreShort, HaveNoBound, IsBound, IsBracket, IsWorstWalk}
 use Rattle.drum_answers.specs.declared.basis.Basis.{Basis}
@@ -16,9 +11,3 @@ IsBasis documents (Bound analysis) =
     AreShort documents × IsBound documents (bound_of analysis)
     × IsWorstWalk documents (bound_of analysis) (angle_of analysis) (visits_of analysis)
 IsBasis documents (Ceiling bracket) = HaveNoBound documents × IsBracket documents bracket
-
--- a picture of it begins with the bound, or with what the walk takes and the ceiling
-abbrev pub IsPictured : Basis → List ℕ → Type 0
-IsPictured (Bound analysis) = IsHeaded Worst (bound_of analysis)
-IsPictured (Ceiling bracket) =
-    IsHeaded (InRounds (ceilings.total_of bracket.ceiling)) (walks.total_of bracket.walk)

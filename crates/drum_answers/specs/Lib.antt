@@ -1,2 +1,3 @@
 pub mod Basis
 pub mod Says
+pub mod Shares

@@ -22,6 +22,7 @@ use Rattle.drum_graph.specs.Graph.{AreNodes, Node}
 use Rattle.drum_graph.specs.GraphText.{graph_text}
 use Rattle.drum_graph.specs.Outline.{outlined}
 use Rattle.drum_listing.specs.Report.{report_text}
+use Rattle.drum_hop_lines.specs.KindsOf.{waited_of}
 use Rattle.drum_hop_lines.specs.Waits.{AreDearestFirst}
 use Rattle.drum_hop_lines.specs.WaitsText.{waits_text}
 use Rattle.drum_hop_lines.specs.WalkText.{walk_text}
@@ -32,11 +33,12 @@ use Rattle.drum_bracket.specs.RoundsText.{rounds_text}
 use Rattle.drum_bracket.specs.RoundsWaits.{rounds_waits_text}
 use Rattle.drum_bracket.specs.SpelledOut.{AreSpelledOut}
 use Rattle.drum_scene.specs.declared.walk.Kind.TheVariants.{InRounds, Worst}
-use Rattle.drum_drawing.specs.Heading.{IsHeaded}
+use Rattle.drum_drawing.specs.PictureText.{IsPictureOf}
 use Rattle.drum_documents.specs.declared.documents.Documents.{Documents}
 use Rattle.drum_documents.specs.Documents.{setting_of}
 use Rattle.drum_limits.specs.Limits.{AreShort, HaveNoBound, IsAnalysisFault, IsBound, IsBracket}
 use Rattle.drum_limits.specs.Limits.{IsCeilingFault, IsDiscoveryFault, IsWorstWalk}
+use Rattle.drum_answers.specs.Shares.{shares_of}
 
 -- ---- what is said
 
@@ -159,17 +161,26 @@ SaysOutline documents reply =
     × AreClosing (loads_in documents.deck) documents.notes (start_in documents.deck) loops
     × (reply ≡ outline_reply documents loops words)
 
--- a picture that begins with the bound; what it shows isn't said
+-- a picture that begins with the bound, and ends with where the word times of such a walk go; what
+-- it shows between isn't said
 abbrev pub SaysPicture : Documents → Reply → Type 0
 SaysPicture documents reply =
     (bound : ℕ) × IsBound documents bound
-    × (picture : List ℕ) × IsHeaded Worst bound picture × (reply ≡ picture_reply picture)
+    × (angle : ℕ) × (walk : List Visited) × IsWorstWalk documents bound angle walk
+    × (picture : List ℕ)
+    × IsPictureOf Worst bound
+    (shares_of bound (waited_of (entry_in documents.times) angle walk)) picture
+    × (reply ≡ picture_reply picture)
 
--- and where there is none, one that begins with what a walk in rounds takes, and the ceiling
+-- and where there is none, one that begins with what a walk in rounds takes, and the ceiling, and
+-- ends with where the word times of the hops go that its pieces spell out
 abbrev pub SaysPictureInRounds : Documents → Bracket → Reply → Type 0
 SaysPictureInRounds documents bracket reply =
-    (picture : List ℕ)
-    × IsHeaded (InRounds (ceilings.total_of bracket.ceiling)) (walks.total_of bracket.walk) picture
+    (visits : List Visited) × AreSpelledOut (setting_of documents) bracket.walk visits
+    × (picture : List ℕ)
+    × IsPictureOf (InRounds (ceilings.total_of bracket.ceiling)) (walks.total_of bracket.walk)
+    (shares_of (walks.total_of bracket.walk)
+    (waited_of (entry_in documents.times) (walks.angle_of bracket.walk) visits)) picture
     × (reply ≡ picture_reply picture)
 
 -- a ceiling with a walk in rounds, each of whose numbers is right

@@ -1,11 +1,11 @@
 //! The answers to questions about documents, each written to an output.
 
-ghost use Rattle.std.specs.Prelude.{◌≡◌, IfErr, IfOk, string_bytes};
+ghost use Rattle.std.specs.Prelude.{◌≡◌, IfErr};
 ghost use Rattle.drum_lines.specs.Does.{Does};
 ghost use Rattle.drum_devices.specs.Device.{Device};
 ghost use Rattle.drum_limits.specs.Limits.{HaveNoBound, IsAnalysisFault, IsBracket};
 ghost use Rattle.drum_limits.specs.Limits.{IsCeilingFault, IsDiscoveryFault};
-ghost use Rattle.drum_answers.specs.Basis.{IsBasis, IsPictured};
+ghost use Rattle.drum_answers.specs.Basis.{IsBasis};
 ghost use Rattle.drum_answers.specs.declared.basis.Basis.TheVariants as bases;
 ghost use Rattle.drum_answers.specs.Says.{ByEither, Refuses, Says, SaysBound};
 ghost use Rattle.drum_answers.specs.Says.{SaysCeiling, SaysGraph, SaysOutline, SaysPicture};
@@ -15,12 +15,13 @@ ghost use Rattle.drum_answers.specs.Says.{SaysSize, SaysTable, SaysWaits, SaysWa
 
 use crate::analysis::analysis_of;
 use crate::basis::{Basis, basis_of};
+use crate::shares::shares_of;
 use crate::telling::{
     tell_ceiling, tell_graph, tell_report, tell_rounds, tell_rounds_waits, tell_table, tell_waits,
     tell_walk,
 };
-use drum_bound::{Analysis, Refusal};
-use drum_bracket::{Outline, WaitsInRounds};
+use drum_bound::Analysis;
+use drum_bracket::{Outline, WaitsInRounds, all_waits_in_rounds};
 use drum_ceiling::Bracket;
 use drum_command::Question;
 use drum_devices::Output;
@@ -28,9 +29,9 @@ use drum_documents::Documents;
 use drum_graph::Graph;
 use drum_limits::{bound_of, bracket_of};
 use drum_lines::{Fault, Status, tell_bound, tell_text};
-use drum_listing::{Size, Table, Waits};
+use drum_listing::{Size, Table, Waits, all_waits};
 use drum_picture::{picture, picture_in_rounds};
-use std::alloc::{AllocError, Global};
+use std::alloc::Global;
 
 /// Writes the bound.
 fn say_bound<O: Output>(alloc: Global, documents: &Documents, out: &mut O) -> Result<Status, Fault>
@@ -182,22 +183,44 @@ fn say_outline<O: Output>(
     Ok(tell_graph(out, documents, &graph))
 }
 
-/// Draws a worst walk.
-fn picture_by(alloc: Global, documents: &Documents, basis: &Basis) -> Result<String, AllocError>
-    ensures { IfOk result (λ picture. IsPictured basis.now (string_bytes picture)) }
+/// Writes a picture of the walk of an analysis.
+fn say_bound_picture<O: Output>(
+    alloc: Global,
+    documents: &Documents,
+    analysis: &Analysis,
+    out: &mut O,
+) -> Result<Status, Fault>
+    requires { IsBasis documents.now (bases.Bound analysis.now) }
+    ensures does { (err : Device) → Does (ByEither SaysPicture SaysPictureInRounds documents.now)
+        (IsCeilingFault documents.now)
+        (O.device out.old) (O.device out.new) err err result }
+    ensures spared { IfErr result (λ _. out.new ≡ out.old) }
 {
     let (deck, times) = (&documents.deck, &documents.times);
-    match basis {
-        Basis::Bound(analysis) => picture(alloc, analysis, deck, times),
-        Basis::Ceiling(bracket) => picture_in_rounds(
-            alloc,
-            &bracket.walk,
-            bracket.ceiling.total(),
-            deck,
-            times,
-            &documents.notes,
-        ),
-    }
+    let shares = shares_of(u128::from(analysis.bound()), &all_waits(analysis, times));
+    let text = picture(alloc, analysis, shares, deck, times)?;
+    Ok(tell_text(out, text.as_bytes()))
+}
+
+/// Writes a picture of the walk beside a ceiling.
+fn say_rounds_picture<O: Output>(
+    alloc: Global,
+    documents: &Documents,
+    bracket: &Bracket,
+    out: &mut O,
+) -> Result<Status, Fault>
+    requires none { HaveNoBound documents.now }
+    requires right { IsBracket documents.now bracket.now }
+    ensures does { (err : Device) → Does (ByEither SaysPicture SaysPictureInRounds documents.now)
+        (IsCeilingFault documents.now)
+        (O.device out.old) (O.device out.new) err err result }
+    ensures spared { IfErr result (λ _. out.new ≡ out.old) }
+{
+    let (deck, times, notes) = (&documents.deck, &documents.times, &documents.notes);
+    let (walk, ceiling) = (&bracket.walk, bracket.ceiling.total());
+    let shares = shares_of(walk.total(), &all_waits_in_rounds(walk, times));
+    let text = picture_in_rounds(alloc, walk, ceiling, shares, deck, times, notes)?;
+    Ok(tell_text(out, text.as_bytes()))
 }
 
 /// Writes a picture of a worst walk.
@@ -212,9 +235,9 @@ fn say_picture<O: Output>(
     ensures spared { IfErr result (λ _. out.new ≡ out.old) }
 {
     let basis = basis_of(alloc, documents)?;
-    match picture_by(alloc, documents, &basis) {
-        Ok(text) => Ok(tell_text(out, text.as_bytes())),
-        Err(_) => Err(Fault::Refused(Refusal::Memory)),
+    match basis {
+        Basis::Bound(analysis) => say_bound_picture(alloc, documents, &analysis, out),
+        Basis::Ceiling(bracket) => say_rounds_picture(alloc, documents, &bracket, out),
     }
 }
 

@@ -37,8 +37,9 @@ use Rattle.drum_hop_lines.proofs.NextAngles.{same_next_at}
 use Rattle.drum_hop_lines.proofs.SameKinds.{alike_equiv, in_common, same_kind_equiv}
 use Rattle.drum_bracket.specs.declared.waits.kind_row.KindRow.{KindRow}
 use Rattle.drum_bracket.specs.RoundsText.{from_to}
+use Rattle.drum_bracket.specs.KindRows.{AreRows}
 use Rattle.drum_bracket.specs.RoundsWaitsOf.{is_of, kind_of, of_those, row_text, seen_kind}
-use Rattle.drum_bracket.specs.RoundsWaitsOf.{waits_data, waits_instruction, AreRows, IsRow, IsRowOf}
+use Rattle.drum_bracket.specs.RoundsWaitsOf.{waits_data, waits_instruction, IsRow, IsRowOf}
 use Rattle.drum_bracket.proofs.FirstComings.{comes, comes_before, of_piece}
 use Rattle.drum_bracket.proofs.FirstVisits.{first_of, head_is, head_within, parted, IsHead}
 use Rattle.drum_bracket.proofs.KindSums.{all_count, at_angle, laid_hop, laid_visit, once_alone, same_data}

@@ -1,6 +1,7 @@
 pub mod CeilingText
 pub mod CountsOf
 pub mod EndsOf
+pub mod KindRows
 pub mod OutlineOf
 pub mod ProgressOf
 pub mod RoundsText

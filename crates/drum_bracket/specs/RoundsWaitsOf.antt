@@ -1,8 +1,6 @@
 -- What the waits of a walk in rounds are, as the code has them.
 use Rattle.std.specs.Prelude.{◌≡◌, ℕ, ◌*◌, ◌<◌, Bool, true, false, if◌then◌else◌, List, ◌++◌}
 use Rattle.std.specs.Prelude.{flat_map, slice_get, slice_index, take, Option, Some, None}
-use Rattle.std.specs.Map.{values_of}
-use Rattle.indexmap.specs.IndexMap.{IndexMap, IsUnique, get}
 use Rattle.drum_core.specs.declared.op.Op.{Op}
 use Rattle.drum_times.specs.declared.entry.Entry.{Entry}
 use Rattle.drum_machine.specs.WaysLeft.{seen_way}
@@ -22,7 +20,7 @@ use Rattle.drum_hop_lines.specs.declared.waited.Waited.{Waited}
 use Rattle.drum_hop_lines.specs.TimedHop.{seen_timed}
 use Rattle.drum_hop_lines.specs.Waits.{for_cards, for_data, for_instruction, is_alike}
 use Rattle.drum_hop_lines.specs.Waits.{AreDearestFirst}
-use Rattle.drum_hop_lines.specs.KindsOf.{same_kind, waited_line, waited_of}
+use Rattle.drum_hop_lines.specs.KindsOf.{waited_line, waited_of}
 use Rattle.drum_hop_lines.specs.WaitsText.{kind_line, wait_line}
 use Rattle.drum_bracket.specs.declared.waits.WaitsInRounds.{WaitsInRounds}
 use Rattle.drum_bracket.specs.declared.waits.kind_row.KindRow.{KindRow}
@@ -111,13 +109,6 @@ abbrev pub IsRowOf : (Op → Entry) → List Piece → List ℕ → ℕ → (Pla
 IsRowOf times pieces often limit is None = AreNoneBelow is pieces limit
 IsRowOf times pieces often limit is (Some row) = IsRow times pieces often limit is row
 
--- A map has the row of each kind, and no kind twice.
-pub record AreRows {S : Type 0} (times : Op → Entry) (pieces : List Piece) (often : List ℕ)
-    (limit : ℕ) (rows : IndexMap Kind KindRow S) : Type 0 where
-  pub found : (kind : Kind)
-      → IsRowOf times pieces often limit (is_of kind) (get same_kind rows kind)
-  pub apart : IsUnique same_kind rows
-
 -- the row of one piece, as often as its hop comes
 pub record IsOfPiece (times : Op → Entry) (often : List ℕ) (at : ℕ) (one : Placed)
     (row : KindRow) : Type 0 where
@@ -149,7 +140,7 @@ row_text times row =
 
 -- the rows, in their order
 abbrev pub rows_in : WaitsInRounds → List KindRow
-rows_in waits = values_of waits.by_kind.entries
+rows_in waits = waits.rows.items
 
 -- the lines of all rows, of all hops, of what the walk takes and of the ceiling
 abbrev pub listed : (Op → Entry) → WaitsInRounds → Bracket → List ℕ

@@ -15,7 +15,7 @@
 //! and `RoundsText` that of its walk. `SpelledOut` is that walk hop by hop, and `RoundsWaits` the
 //! text of where its word times go. The others say what the code means by these: `ProgressOf` (how
 //! far a walk is told), `EndsOf`, `CountsOf`, `OutlineOf`, `TellerOf`, `RoundsWaitsOf` (the waits,
-//! as they are reckoned).
+//! as they are reckoned) with `KindRows` (their rows, before they are sorted).
 //!
 //! Proofs. `Lists` has what stands where in a list, and `EndLaws` where hops begin. `Passing` has
 //! lines that are told one after the other; `Tellings` how pieces are told, and how long they take;
@@ -41,4 +41,4 @@ mod waits;
 pub use outline::Outline;
 pub use prices::put_ceiling;
 pub use rounds::put_rounds;
-pub use waits::{WaitsInRounds, put_rounds_waits};
+pub use waits::{WaitsInRounds, all_waits_in_rounds, put_rounds_waits};

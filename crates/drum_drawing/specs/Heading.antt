@@ -1,5 +1,5 @@
 -- What a picture says in words at its beginning. Numbers are plain decimal.
-use Rattle.std.specs.Prelude.{◌≡◌, ℕ, List, ◌++◌, codes, decimal}
+use Rattle.std.specs.Prelude.{ℕ, List, ◌++◌, codes, decimal}
 use Rattle.drum_scene.specs.declared.walk.Kind.{Kind}
 use Rattle.drum_scene.specs.declared.walk.Kind.TheVariants.{InRounds, Run, Worst}
 
@@ -43,9 +43,3 @@ heading (InRounds ceiling) time paper =
     ++ large 40 (codes "reached") time ++ ceiling_line ceiling
 heading (Run verdict) time paper =
     title (codes "A run") time ++ paper ++ large 40 (codes "run") time
-
--- a picture of some size begins with that
-abbrev pub IsHeaded : Kind → ℕ → List ℕ → Type 0
-IsHeaded kind time picture =
-    (width : ℕ) × (height : ℕ) × (rest : List ℕ)
-    × (picture ≡ element width height ++ heading kind time (page width height) ++ rest)

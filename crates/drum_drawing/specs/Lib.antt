@@ -1,2 +1,4 @@
+pub mod Bar
 pub mod Draws
 pub mod Heading
+pub mod PictureText

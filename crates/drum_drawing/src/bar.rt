@@ -1,5 +1,8 @@
 //! The bar: where all word times of the walk go.
 
+ghost use Rattle.drum_drawing.specs.Bar.{number_at, numbers};
+ghost use Rattle.drum_drawing.specs.Draws.{Draws};
+
 use crate::ink::Ink;
 use crate::page::TITLE;
 use crate::scale::scaled;
@@ -43,7 +46,7 @@ fn parts_of(shares: Shares) -> [Share; 4] {
     ]
 }
 
-/// Writes what a part is, below the bar.
+/// Writes what a part is, below the bar, with its percentage.
 fn draw_name(svg: &mut Svg, share: Share, whole: u128, x: u64) {
     let Share { ink, name, time } = share;
     let percent = Tenths {
@@ -51,12 +54,11 @@ fn draw_name(svg: &mut Svg, share: Share, whole: u128, x: u64) {
     };
     let beside = x.saturating_add(18);
     draw!(svg: "<rect " ink " x='" x "' y='38' width='11' height='11'/>");
-    draw!(svg: "<text x='" beside "' y='48'>" name "</text>");
-    draw!(svg: "<text x='" beside "' y='66'>" time " (" percent " %)</text>\n");
+    draw!(svg: "<text x='" beside "' y='48'>" name ": " percent " %</text>\n");
 }
 
 /// Draws where the word times of a walk go: a bar at this height of the page, with its parts' names
-/// and numbers. All of them are the whole.
+/// and percentages. All of them are the whole.
 pub fn draw_bar(svg: &mut Svg, shares: Shares, whole: u128, top: u64) {
     draw!(svg: "<g transform='translate(30 " top ")'>");
     draw!(svg: "<text " TITLE " x='-2' y='-10'>Where all " whole " word times go</text>\n");
@@ -70,4 +72,27 @@ pub fn draw_bar(svg: &mut Svg, shares: Shares, whole: u128, top: u64) {
         column = column.saturating_add(300);
     }
     draw!(svg: "</g>\n");
+}
+
+/// Writes a number of word times, in a column and at a height of the page.
+fn draw_number(svg: &mut Svg, column: u64, base: u64, time: u128)
+    ensures { Draws svg.old svg.new (number_at column base time) }
+{
+    svg.push("<text x='");
+    svg.push_number(column);
+    svg.push("' y='");
+    svg.push_number(base);
+    svg.push("'>");
+    svg.push_number(time);
+    svg.push("</text>\n");
+}
+
+/// Writes how many word times go into each part, below its name, at this height of the page.
+pub fn draw_numbers(svg: &mut Svg, shares: Shares, base: u64)
+    ensures { Draws svg.old svg.new (numbers base shares) }
+{
+    draw_number(svg, 48, base, shares.work);
+    draw_number(svg, 348, base, shares.instructions);
+    draw_number(svg, 648, base, shares.data);
+    draw_number(svg, 948, base, shares.cards);
 }

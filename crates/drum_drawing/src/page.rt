@@ -132,11 +132,6 @@ pub fn draw_below_heading(svg: &mut Svg, walk: Walk) {
     }
 }
 
-/// Ends the picture.
-pub fn end(svg: &mut Svg) {
-    draw!(svg: "</svg>\n");
-}
-
 /// Writes how many bands are drawn, and which are the outermost and the innermost.
 fn draw_bands(svg: &mut Svg, count: usize, first: u16, last: u16) {
     let from = first.saturating_mul(50);

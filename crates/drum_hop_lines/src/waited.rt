@@ -46,7 +46,7 @@ impl Waited {
 
     /// The rest of the word times that the hops take: what their operations take themselves, with
     /// their waits for a parity.
-    pub(crate) fn work(&self, time: u128) -> u128
+    pub fn work(&self, time: u128) -> u128
         ensures { result
             ≡ time - self.now.instruction - self.now.operand - self.now.cards }
     {

@@ -1,7 +1,6 @@
 -- The lines of the waits of a walk, by their rows.
 use Rattle.std.proofs.Common.{◌≡◌, ℕ, List, ap, ◌∙◌}
 use Rattle.std.proofs.Common.{flat_map}
-use Rattle.std.specs.Map.{values_of}
 use Rattle.drum_core.specs.declared.op.Op.{Op}
 use Rattle.drum_times.specs.declared.entry.Entry.{Entry}
 use Rattle.drum_walks.specs.Visited.{Visited}
@@ -30,12 +29,12 @@ row_line times angle walk wait is =
 
 -- those of the waits of a walk
 pub rows_told : (times : Op → Entry) (angle start : ℕ) (walk : List Visited) (waits : Waits)
-    (rows : List Wait) → angle ≡ start → rows ≡ values_of waits.by_kind.entries
+    (rows : List Wait) → angle ≡ start → rows ≡ waits.rows.items
     → AreWaits times start walk waits
     → flat_map (row_text times angle) rows ≡ flat_map (wait_line times start walk) (firsts_of waits)
 rows_told times angle start walk waits rows at told are =
     ap (λ (a : ℕ). flat_map (row_text times a) rows) at
     ∙ ap (flat_map (row_text times start)) told
     ∙ same_texts (row_text times start) (λ (wait : Wait). wait_line times start walk (first_of wait))
-    (values_of waits.by_kind.entries) (λ wait has. row_line times start walk wait (are.rows wait has))
-    ∙ flat_map_map (wait_line times start walk) first_of (values_of waits.by_kind.entries)
+    waits.rows.items (λ wait has. row_line times start walk wait (are.rows wait has))
+    ∙ flat_map_map (wait_line times start walk) first_of waits.rows.items

@@ -22,7 +22,8 @@ use Rattle.drum_hop_lines.proofs.KindRows.{entry_of, key_at, one_place, AreDeare
 use Rattle.drum_hop_lines.proofs.SameKinds.{same_kind_equiv}
 use Rattle.drum_listing.specs.declared.waits.Waits.{Waits}
 use Rattle.drum_listing.specs.declared.waits.wait.Wait.{Wait}
-use Rattle.drum_listing.specs.WaitsOf.{AreRows, AreWaits, IsSumOf, first_of, of_kind, row_of}
+use Rattle.drum_listing.specs.KindRows.{AreRows}
+use Rattle.drum_listing.specs.WaitsOf.{AreWaits, IsSumOf, first_of, of_kind, row_of}
 use Rattle.drum_listing.proofs.WaitRows.{of_same, part_le}
 
 -- ---- lists
@@ -327,24 +328,27 @@ module _ {S : Type 0} (times : Op → Entry) (angle : ℕ) (walk : List Visit) (
         part_le time_of (λ (v : Visit). same_kind entry.0 (kind_of v)) walk,
       )
 
-  rows_are : (waits : Waits) → waits.by_kind.entries ≡ rows.entries
+  rows_are : (waits : Waits) → waits.rows.items ≡ values_of rows.entries
       → waits.waited ≡ waited_of times angle (map seen_visit walk)
       → AreDearest time_in begun_in (values_of rows.entries) → AreWaits times angle (map seen_visit walk) waits
   rows_are waits same all sorted = record {
     rows = λ row has.
         sum_of times angle walk rows are row
-        (subst (λ (es : List (Kind × Wait)). Contains (values_of es) row) same has);
+        (subst (λ (all : List Wait). Contains all row) same has);
     firsts =
-        subst (λ (es : List (Kind × Wait)). AreDearestFirst (map seen_visit walk) (map first_of (values_of es)))
+        subst (λ (all : List Wait). AreDearestFirst (map seen_visit walk) (map first_of all))
         (sym same) (dearest_first times angle walk rows are sorted);
     waited = all;
   }
 
   -- The rows, sorted, are the waits of the visits that are seen so.
   pub are_waits : (start : ℕ) (visits : List Visited) → angle ≡ start → map seen_visit walk ≡ visits
-      → (waits : Waits) → waits.by_kind.entries ≡ rows.entries
-      → waits.waited ≡ waited_of times angle (map seen_visit walk)
+      → (waits : Waits) → waits.rows.items ≡ values_of rows.entries
+      → waits.waited ≡ waited_of times start visits
       → AreDearest time_in begun_in (values_of rows.entries) → AreWaits times start visits waits
   are_waits start visits at seen waits same all sorted =
       subst (λ (hops : List Visited). AreWaits times start hops waits) seen
-      (subst (λ (a : ℕ). AreWaits times a (map seen_visit walk) waits) at (rows_are waits same all sorted))
+      (subst (λ (a : ℕ). AreWaits times a (map seen_visit walk) waits) at
+      (rows_are waits same
+      (all ∙ ap (waited_of times start) (sym seen) ∙ ap (λ (a : ℕ). waited_of times a (map seen_visit walk)) (sym at))
+      sorted))

@@ -1,3 +1,4 @@
+pub mod KindRows
 pub mod Report
 pub mod SizeOf
 pub mod SizeText

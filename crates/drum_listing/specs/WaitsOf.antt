@@ -1,8 +1,6 @@
 -- What the waits of a walk are, as the code has them.
 use Rattle.std.specs.Prelude.{◌≡◌, ℕ, List, [], ◌∷◌, filter, map}
 use Rattle.std.specs.Prelude.{Option, Some, None, Contains}
-use Rattle.std.specs.Map.{values_of}
-use Rattle.indexmap.specs.IndexMap.{IndexMap, IsUnique, get}
 use Rattle.drum_core.specs.declared.op.Op.{Op}
 use Rattle.drum_times.specs.declared.entry.Entry.{Entry}
 use Rattle.drum_walks.specs.declared.visit.Visit.{Visit}
@@ -26,18 +24,12 @@ row_of times angle [] = None
 row_of times angle (first ∷ others) =
     Some (record { first = first; sums = sums_of times angle (map seen_visit (first ∷ others)) })
 
--- A map has the row of each kind of hops of a walk, and no kind twice.
-pub record AreRows {S : Type 0} (times : Op → Entry) (angle : ℕ) (walk : List Visit)
-    (rows : IndexMap Kind Wait S) : Type 0 where
-  pub found : (kind : Kind) → get same_kind rows kind ≡ row_of times angle (of_kind kind walk)
-  pub apart : IsUnique same_kind rows
-
 -- the first hop of a row's kind
 abbrev pub first_of : Wait → Visited
 first_of wait = seen_visit wait.first
 
 abbrev pub firsts_of : Waits → List Visited
-firsts_of waits = map first_of (values_of waits.by_kind.entries)
+firsts_of waits = map first_of waits.rows.items
 
 -- A row sums up the hops of a walk that are of its first one's kind.
 abbrev pub IsSumOf : (Op → Entry) → ℕ → List Visited → Wait → Type 0
@@ -46,8 +38,7 @@ IsSumOf times angle walk wait = wait.sums ≡ sums_of times angle (alike (first_
 -- The rows are those of a walk, the dearest first, and beside them is what all its hops wait.
 pub record AreWaits (times : Op → Entry) (angle : ℕ) (walk : List Visited) (waits : Waits) : Type 0
   where
-    pub rows : (wait : Wait) → Contains (values_of waits.by_kind.entries) wait
-        → IsSumOf times angle walk wait
+    pub rows : (wait : Wait) → Contains waits.rows.items wait → IsSumOf times angle walk wait
     pub firsts : AreDearestFirst walk (firsts_of waits)
     pub waited : waits.waited ≡ waited_of times angle walk
 

@@ -13,7 +13,8 @@
 //! Definitions, in the order to read them: `Report` is the report's text, `TableText` and
 //! `SizeText` those of table and size; those of the other lines are in `drum_hop_lines`. `Written`
 //! is what has gone out of a text. `TalliesOf` says what the tallies mean by the report. `WaitsOf`
-//! are the waits, `TableOf` is the table, and `SizeOf` the size, as the code has them.
+//! are the waits (`KindRows` their rows, before they are sorted), `TableOf` is the table, and
+//! `SizeOf` the size, as the code has them.
 //!
 //! Proofs. Of the waits: `WaitRows` (rows with a hop more), `WaitsFound` (rows, sorted, are the
 //! waits) and `WaitRowLines` (the lines of rows). Of the report: `Tallying` (tallies with a hop
@@ -32,5 +33,5 @@ pub use failed_write::WriteFault;
 pub use reporting::report;
 pub use size::Size;
 pub use table::{Table, put_table};
-pub use waits::{Waits, put_waits};
+pub use waits::{Waits, all_waits, put_waits};
 pub use walk::put_walk;

@@ -1,1 +1,1 @@
-mod Headings
+pub mod Pictured

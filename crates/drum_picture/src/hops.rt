@@ -1,6 +1,6 @@
 //! The hops of a walk, as they are listed, and which of its revolutions are shown.
 
-use drum_scene::{DrawnHop, Extent, PAGE_ROWS, Parts, Rows, Shares, Tallies, Walk};
+use drum_scene::{DrawnHop, Extent, PAGE_ROWS, Parts, Rows, Tallies, Walk};
 use drum_times::Times;
 use drum_walks::Visit;
 use std::alloc::{AllocError, Global};
@@ -76,12 +76,9 @@ impl Hops<'_> {
     }
 
     /// Counts the hops.
-    pub fn count(self, tallies: &mut Tallies) -> Shares {
-        let mut shares = Shares::NONE;
+    pub fn count(self, tallies: &mut Tallies) {
         for visit in self.visits {
             tallies.count(visit, 1);
-            shares = shares.with(Parts::of(visit, self.angle, self.times), 1);
         }
-        shares
     }
 }

@@ -1,7 +1,8 @@
 //! The picture of an analysis, of a ceiling, or of a run: the worst walk of the one, the walk in
 //! rounds beside the other, or the steps of the last, drawn as an SVG document of bounded size. It
-//! is proved to be safe and to end, whatever is handed in, and to begin with what the walk takes,
-//! in words; how it looks is no contract. docs/PICTURE.md says how it is read.
+//! is proved to be safe and to end, whatever is handed in, to begin with what the walk takes, in
+//! words, and to end with where these word times go, in numbers; how it looks is no contract.
+//! docs/PICTURE.md says how it is read.
 //!
 //! Code. `pictures` has `picture`, `picture_in_rounds` and `picture_of_run`. Each finds what is
 //! shown, the scene of `drum_scene`, and has `drum_drawing` draw it. `of_analysis` finds it of an
@@ -10,7 +11,7 @@
 //! in rounds `pieces` tells what each piece takes and how often it comes, and `going` goes through
 //! them, hop by hop.
 //!
-//! Proofs. `Headings` says what a picture begins with by what its walk was found in.
+//! Proofs. `Pictured` says what a picture says by what its walk was found in.
 #![tactic(auto)]
 
 mod going;

@@ -7,19 +7,21 @@ ghost use Rattle.drum_scene.specs.declared.walk.Kind.TheVariants.{Worst};
 use crate::hops::Hops;
 use drum_bound::Analysis;
 use drum_deck::Deck;
-use drum_scene::{Braces, Edges, Kind, Scene, Tallies, Walk};
+use drum_scene::{Braces, Edges, Kind, Scene, Shares, Tallies, Walk};
 use drum_times::Times;
 use std::alloc::{AllocError, Global};
 
-/// What is drawn of an analysis of a deck and a timing table.
+/// What is drawn of an analysis of a deck and a timing table, with the shares of its walk.
 pub fn of_analysis(
     alloc: Global,
     analysis: &Analysis,
+    shares: Shares,
     deck: &Deck,
     times: &Times,
 ) -> Result<Scene, AllocError>
     ensures kind { IfOk result (λ scene. scene.walk.kind ≡ Worst) }
     ensures time { IfOk result (λ scene. scene.walk.time ≡ bound_of analysis.now) }
+    ensures shares { IfOk result (λ scene. scene.shares ≡ shares) }
 {
     let walk = Walk {
         kind: Kind::Worst,
@@ -32,7 +34,7 @@ pub fn of_analysis(
         times,
     };
     let mut tallies = Tallies::new(alloc)?;
-    let shares = hops.count(&mut tallies);
+    hops.count(&mut tallies);
     for worst in analysis.table() {
         tallies.note_executed(worst.place);
     }

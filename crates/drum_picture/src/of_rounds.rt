@@ -27,15 +27,12 @@ fn edges_of(alloc: Global, pieces: &[Weighed<'_>]) -> Result<Edges, AllocError> 
 }
 
 /// Counts the hops of a walk.
-fn count(tallies: &mut Tallies, pieces: &[Weighed<'_>]) -> Shares {
-    let mut shares = Shares::NONE;
+fn count(tallies: &mut Tallies, pieces: &[Weighed<'_>]) {
     for piece in pieces {
         if let (Content::Hop(hop), true) = (piece.content, piece.taken > 0) {
             tallies.count(&hop.visit, piece.taken);
-            shares = shares.with(hop.parts, piece.taken);
         }
     }
-    shares
 }
 
 /// How much of a walk these rows are.
@@ -51,17 +48,19 @@ fn extent_of(walk: Walk, rows: &Rows) -> Extent {
     }
 }
 
-/// What is drawn of a walk in rounds of a deck, a timing table and notes.
+/// What is drawn of a walk in rounds of a deck, a timing table and notes, with its shares.
 pub fn of_rounds(
     alloc: Global,
     in_rounds: &InRounds,
     ceiling: u128,
+    shares: Shares,
     deck: &Deck,
     times: &Times,
     notes: &Notes,
 ) -> Result<Scene, AllocError>
     ensures kind { IfOk result (λ scene. scene.walk.kind ≡ kinds.InRounds ceiling) }
     ensures time { IfOk result (λ scene. scene.walk.time ≡ total_of in_rounds.now) }
+    ensures shares { IfOk result (λ scene. scene.shares ≡ shares) }
 {
     let walk = Walk {
         kind: Kind::InRounds(ceiling),
@@ -70,7 +69,7 @@ pub fn of_rounds(
     };
     let pieces = weigh(alloc, in_rounds.pieces(), times)?;
     let mut tallies = Tallies::new(alloc)?;
-    let shares = count(&mut tallies, &pieces);
+    count(&mut tallies, &pieces);
     tallies.note_flow(alloc, deck, notes)?;
     let (rows, braces) = Going::all(alloc, &pieces, walk.angle)?;
     Ok(Scene {

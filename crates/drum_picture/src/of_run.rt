@@ -22,6 +22,7 @@ pub fn of_run(
 ) -> Result<Scene, AllocError>
     ensures kind { IfOk result (λ scene. scene.walk.kind ≡ kinds.Run verdict.now) }
     ensures time { IfOk result (λ scene. scene.walk.time ≡ run.time) }
+    ensures shares { IfOk result (λ scene. scene.shares ≡ run.shares) }
 {
     let Run {
         angle,

@@ -6,9 +6,9 @@ ghost use Rattle.drum_walks.specs.declared.piece.Piece.TheVariants as pieces;
 ghost use Rattle.drum_walks.specs.Pieces.{seen_placed};
 ghost use Rattle.drum_rounds.specs.InRounds.{often_of, pieces_of, total_of};
 ghost use Rattle.drum_bracket.specs.OutlineOf.{IsWalkWith};
+ghost use Rattle.drum_bracket.specs.KindRows.{AreRows};
 ghost use Rattle.drum_bracket.specs.RoundsWaitsOf.{hop_in, kind_of, waited_over, waits_cards};
-ghost use Rattle.drum_bracket.specs.RoundsWaitsOf.{waits_data, waits_instruction, AreRows};
-ghost use Rattle.drum_bracket.specs.RoundsWaitsOf.{IsOfPiece};
+ghost use Rattle.drum_bracket.specs.RoundsWaitsOf.{waits_data, waits_instruction, IsOfPiece};
 
 use super::alone::alone;
 use super::kind_row::KindRow;

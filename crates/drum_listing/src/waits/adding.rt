@@ -5,7 +5,7 @@ ghost use Rattle.drum_times.specs.Entries.{entry_in};
 ghost use Rattle.drum_walks.specs.Visited.{seen_visit};
 ghost use Rattle.drum_hop_lines.specs.Waits.{for_data, for_instruction, time_of};
 ghost use Rattle.drum_hop_lines.specs.KindsOf.{waited_of};
-ghost use Rattle.drum_listing.specs.WaitsOf.{AreRows};
+ghost use Rattle.drum_listing.specs.KindRows.{AreRows};
 
 use crate::waits::wait::Wait;
 use drum_hop_lines::{Kind, Spent, Sums, TimedHop, Waited};

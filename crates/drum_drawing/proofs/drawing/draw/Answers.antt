@@ -11,5 +11,7 @@ if_ok (Err error) each is = tt
 pub returns : goal.returns
 returns c =
     let layout = c.of-layout.result in
-    if_ok c.finish.result (λ whole is. (layout.width, layout.height, c.deref.result.now, is))
-    (c.finish.ensures _ ((c.begin.ensures ⊳ c.push.ensures).says [] c.new-svg.ensures))
+    if_ok c.finish.result
+    (λ whole is. (layout.width, layout.height, c.deref.result.now, c.saturating_add-base.result, is))
+    (c.finish.ensures _
+    ((c.begin.ensures ⊳ c.push.ensures ⊳ c.draw_numbers.ensures ⊳ c.push-2.ensures).says [] c.new-svg.ensures))

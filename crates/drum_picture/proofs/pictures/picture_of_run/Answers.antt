@@ -1,6 +1,7 @@
-use Rattle.drum_picture.proofs.Headings.{headed_as}
+use Rattle.drum_picture.proofs.Pictured.{pictured_as}
 use Rattle.drum_picture.proofs.pictures.picture_of_run.Goals as goal
 
 pub returns : goal.returns
 returns c =
-    headed_as c.draw.result c.in_ok-of_run.ensures.kind c.in_ok-of_run.ensures.time c.draw.ensures
+    pictured_as c.draw.result c.in_ok-of_run.ensures.kind c.in_ok-of_run.ensures.time c.in_ok-of_run.ensures.shares
+    c.draw.ensures

@@ -7,17 +7,15 @@ use Rattle.drum_core.specs.declared.op.Op.{Op}
 use Rattle.drum_times.specs.declared.entry.Entry.{Entry}
 use Rattle.drum_times.specs.Entries.{entry_in}
 use Rattle.drum_flow.specs.SettingOf.{setting}
-use Rattle.drum_walks.specs.Pieces.{spelled}
 use Rattle.drum_rounds.specs.InRounds.{angle_of, often_of, pieces_of}
-use Rattle.drum_hop_lines.specs.KindsOf.{waited_of}
 use Rattle.drum_hop_lines.specs.WaitsText.{wait_line}
 use Rattle.drum_hop_lines.proofs.KindRows.{dearest_sorted, sort_key}
 use Rattle.drum_hop_lines.proofs.SameKinds.{reordered_same, unique_same}
-use Rattle.drum_bracket.specs.RoundsWaitsOf.{is_of, row_text, waited_over, AreRows, IsRowOf}
+use Rattle.drum_bracket.specs.KindRows.{AreRows}
+use Rattle.drum_bracket.specs.RoundsWaitsOf.{is_of, row_text, IsRowOf}
 use Rattle.drum_bracket.proofs.Laid.{are_laid}
 use Rattle.drum_bracket.proofs.RoundsWaitsFound.{dearest_first, first_visit, number_in, row_short, rows_lines, time_in}
 use Rattle.drum_bracket.proofs.RowRoom.{hops_laid, hops_seen, whole}
-use Rattle.drum_bracket.proofs.WholeWaits.{waited_all}
 use Rattle.drum_bracket.proofs.waits.WaitsInRounds.of.Goals as goal
 
 pub returns : goal.returns
@@ -57,10 +55,9 @@ returns c = λ g visits same out.
     subst (λ (t : Op → Entry). AreRows t pieces often (length pieces) rows) (sym same) are in (
       map (first_visit visits) (values_of rows.entries),
       dearest_first g (angle_of walk) visits pieces often told.each.1 order told.adds laid rows are_g sorted,
-      subst (λ (t : Op → Entry). flat_map (row_text t) (values_of rows.entries)
+      ap (flat_map (row_text times)) (c.in_ok-rows.ensures.items ∙ c.as_slice.ensures ∙ c.values.ensures.rest)
+          ∙ subst (λ (t : Op → Entry). flat_map (row_text t) (values_of rows.entries)
           ≡ flat_map (wait_line t (angle_of walk) visits) (map (first_visit visits) (values_of rows.entries))) same
           (rows_lines g (angle_of walk) visits pieces often told.each.1 order told.adds laid rows are_g),
-      c.waited-waited.ensures ∙ ap (λ (t : Op → Entry). waited_over t pieces often) (sym same)
-          ∙ waited_all g.times (angle_of walk) visits (spelled pieces) pieces often told.adds laid
-          ∙ ap (λ (t : Op → Entry). waited_of t (angle_of walk) visits) same,
+      c.all_waits_in_rounds-waited.ensures g visits same out,
     )

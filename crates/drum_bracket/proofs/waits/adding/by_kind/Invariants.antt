@@ -1,6 +1,6 @@
 use Rattle.drum_times.specs.Entries.{entry_in}
 use Rattle.drum_rounds.specs.InRounds.{often_of, pieces_of}
-use Rattle.drum_bracket.specs.RoundsWaitsOf.{AreRows}
+use Rattle.drum_bracket.specs.KindRows.{AreRows}
 use Rattle.drum_bracket.proofs.waits.adding.by_kind.Given as goal
 
 -- the rows of the pieces so far

@@ -1,6 +1,6 @@
 -- Of Waits::of: sorting moves the sums of the kinds, and its key puts the dearest first, and of
 -- those that cost the same the one that the walk comes to first.
-use Rattle.std.proofs.Common.{map, ap, ◌∙◌, arith, ◌<◌, ◌^◌, refl, rules}
+use Rattle.std.proofs.Common.{map, ap, ◌∙◌, arith, ◌<◌, ◌^◌, rules}
 use Rattle.std.proofs.lemmas.List.Sorted.{answers_always}
 use Rattle.std.specs.Prelude.{sum_by}
 use Rattle.drum_times.specs.Entries.{entry_in}
@@ -9,7 +9,7 @@ use Rattle.drum_bound.specs.AnalysisOf.{angle_of, bound_of, visits_of}
 use Rattle.drum_hop_lines.specs.Waits.{time_of}
 use Rattle.drum_hop_lines.proofs.SameKinds.{reordered_same, unique_same}
 use Rattle.drum_hop_lines.proofs.KindRows.{dearest_sorted, sort_key}
-use Rattle.drum_listing.specs.WaitsOf.{AreRows}
+use Rattle.drum_listing.specs.KindRows.{AreRows}
 use Rattle.drum_listing.proofs.WaitsFound.{are_waits, begun_in, row_short, spends, time_in}
 use Rattle.drum_listing.proofs.waits.Waits.of.Goals as goal
 
@@ -42,7 +42,8 @@ returns c =
       analysis.below,
     ) in
     are_waits times c.angle-angle.result walk rows are (angle_of analysis) (visits_of analysis) c.angle-angle.ensures
-    c.walk-walk.ensures.told _ refl c.waited-waited.ensures
+    c.walk-walk.ensures.told _ (c.in_ok-rows.ensures.items ∙ c.as_slice.ensures ∙ c.values.ensures.rest)
+    c.all_waits-waited.ensures
     (dearest_sorted time_in begun_in rows.entries
     (λ row has. omega (arith, row_short times c.angle-angle.result walk rows are row has, short))
     (c.in_ok-sort_by_key.ensures.sorted (sort_key time_in begun_in)

@@ -1,6 +1,6 @@
 use Rattle.std.proofs.Common.{take}
 use Rattle.drum_times.specs.Entries.{entry_in}
-use Rattle.drum_listing.specs.WaitsOf.{AreRows}
+use Rattle.drum_listing.specs.KindRows.{AreRows}
 use Rattle.drum_listing.proofs.waits.adding.by_kind.Given as goal
 
 -- the rows of the hops so far
