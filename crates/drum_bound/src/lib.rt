@@ -21,9 +21,9 @@
 //! walks, and `Counted` how many ends a ledger counts where it is found. The others are how it is
 //! found, and a reader of the theorem's clauses needs only `row_in` of `RowOf`. `Digits`, `Keys`,
 //! `Scanned` and `TakenOf` are definitions. `EndOf`, `KeysOf`, `LeapOf`, `RecentOf` and `RoundOf`
-//! say what the code's types mean by them, and `OfCells` which cells an analysis is made of. `Kept` says how the table that is raised holds what is
-//! kept at a key. `Held` (what is kept at all keys), `SearchOf`, `ScanOf` and `ToEnd` say what is
-//! asked where an end is made.
+//! say what the code's types mean by them, and `OfCells` which cells an analysis is made of.
+//! `InEntries` says how the table that is raised holds what is kept at a key. `InCells` (what is
+//! kept at all keys), `SearchOf`, `ScanOf` and `ToEnd` say what is asked where an end is made.
 //!
 //! Proofs. Laws of numbers of counts (`DigitsLaws`), of leaps that serve more hops (`Recents`), of
 //! keys (`KeyLaws`, `Onward`) and of rounds (`RoundLaws`). Laws of what is held, by entry

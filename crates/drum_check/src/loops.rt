@@ -109,7 +109,7 @@ fn within_of(
 
 /// Which mark the mark of an edge is to stand inside of, if the edge is its first; else that it
 /// shares the mark.
-fn told_of(
+fn within_or_shared(
     alloc: Global,
     nesting: &Nesting<'_>,
     all: &[Edges],
@@ -129,7 +129,7 @@ fn told_of(
 
 /// The loops of these edges, each with the mark that a mark on it is to stand inside of. At these
 /// locations edges share a mark.
-fn told_inside(
+fn loops_within(
     alloc: Global,
     nesting: &Nesting<'_>,
     shared: &[Location],
@@ -145,7 +145,7 @@ fn told_inside(
     let mut loops = Vec::new(alloc);
     for edge in edges {
         let mark = mark_on(alloc, shared, edges, *edge)?;
-        let within = told_of(alloc, nesting, &all, &before, mark.all(), *edge)?;
+        let within = within_or_shared(alloc, nesting, &all, &before, mark.all(), *edge)?;
         loops.push(Finding::Loop {
             edge: *edge,
             within,
@@ -157,7 +157,7 @@ fn told_inside(
 
 /// The same, with the locations at which edges share a mark found first; these are the edges of the
 /// notes' marks.
-fn told_apart(
+fn loops_sharing_marks(
     alloc: Global,
     nesting: &Nesting<'_>,
     marked: &[Edge],
@@ -172,11 +172,11 @@ fn told_apart(
     let mut inners = marked.to_vec(alloc)?;
     inners.extend_from_slice(edges)?;
     let shared = shared_heads(alloc, nesting, &inners, edges)?;
-    told_inside(alloc, nesting, &shared, edges)
+    loops_within(alloc, nesting, &shared, edges)
 }
 
 /// The loops of these edges, none of which is said to stand inside a mark.
-fn told_alone(alloc: Global, edges: &[Edge]) -> Result<Vec<Finding>, AllocError>
+fn loops_alone(alloc: Global, edges: &[Edge]) -> Result<Vec<Finding>, AllocError>
     ensures { IfOk result (λ loops. map seen loops.items
         ≡ map (λ edge. closes (edge_of edge) within.Run) edges.now) }
 {
@@ -199,7 +199,7 @@ fn are_many(marked: usize, edges: usize) -> bool
 
 /// The loops of these edges, in the order in which they are listed, each with the mark that a mark
 /// on it is to stand inside of. The marked ones are those of the notes' marks.
-fn told_in_order(
+fn loops_in_order(
     alloc: Global,
     flow: &Flow<'_>,
     marked: &[Edge],
@@ -216,7 +216,7 @@ fn told_in_order(
     all.extend_from_slice(edges)?;
     let nesting = Nesting::of(alloc, flow, &all, edges)?;
     let sorted = fewest_first(alloc, &nesting, edges)?;
-    told_apart(alloc, &nesting, marked, &sorted)
+    loops_sharing_marks(alloc, &nesting, marked, &sorted)
 }
 
 /// The loops that lack a mark, in the order in which they are listed. Where they and the marks that
@@ -232,7 +232,7 @@ pub fn unmarked_loops(alloc: Global, flow: &Flow<'_>) -> Result<Vec<Finding>, Al
     let edges = closing_edges(alloc, flow)?;
     let marked = marked_edges(alloc, flow)?;
     if are_many(marked.len(), edges.len()) {
-        return told_alone(alloc, &edges);
+        return loops_alone(alloc, &edges);
     }
-    told_in_order(alloc, flow, &marked, &edges)
+    loops_in_order(alloc, flow, &marked, &edges)
 }

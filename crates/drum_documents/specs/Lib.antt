@@ -3,5 +3,5 @@ pub mod Documents
 pub mod Files
 pub mod Joined
 pub mod PartsOf
-pub mod TextsHeld
+pub mod TextsIn
 pub mod TextsOf

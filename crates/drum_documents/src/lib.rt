@@ -7,7 +7,7 @@
 //! of a joined form, and `joined_input` the documents of one.
 //!
 //! Definitions, in the order to read them: `Documents` says which texts say documents. Then come
-//! the texts of a joined form (`Joined`) and of files (`Files`, of a check `TextsHeld`). `Asked` is
+//! the texts of a joined form (`Joined`) and of files (`Files`, of a check `TextsIn`). `Asked` is
 //! what is asked of a source: which files, in which order. `PartsOf` and `TextsOf` are the texts as
 //! the code holds them.
 //!

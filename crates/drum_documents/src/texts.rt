@@ -8,8 +8,8 @@ ghost use Rattle.drum_documents.specs.Asked.{AsksFor, LooksFor};
 ghost use Rattle.drum_documents.specs.Asked.{inputs_named, name_in, named_in, named_with};
 ghost use Rattle.drum_documents.specs.TextsOf.{inputs_in, texts_in};
 ghost use Rattle.drum_documents.specs.Files.{AreTold, Contents, HoldsNoText, behind};
-ghost use Rattle.drum_documents.specs.TextsHeld.{AreNoTextsHeld, AreNoneHeld, AreTextsHeld};
-ghost use Rattle.drum_documents.specs.TextsHeld.{IsInputsText};
+ghost use Rattle.drum_documents.specs.TextsIn.{AreNoTextsHeld, AreNoneHeld, AreTextsHeld};
+ghost use Rattle.drum_documents.specs.TextsIn.{IsInputsText};
 
 use crate::files::read_text;
 use crate::source::Source;

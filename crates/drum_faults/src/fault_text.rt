@@ -147,7 +147,7 @@ fn with_more(
 }
 
 /// What is told of a fault among all faults of its text: of many that are alike the first alone.
-fn with_told<F>(
+fn with_fault_line<F>(
     text: Vec<u8>,
     name: &str,
     faults: &[PlacedFault<F>],
@@ -177,7 +177,7 @@ pub fn with_deck_faults(
         new.items ≡ text.items ++ flat_map (deck_fault_text name.now faults.now) faults.now) }
 {
     for placed in faults {
-        text = with_told(text, name, faults, placed, &Fault::Deck(placed.fault))?;
+        text = with_fault_line(text, name, faults, placed, &Fault::Deck(placed.fault))?;
     }
     Ok(text)
 }
@@ -192,7 +192,7 @@ pub fn with_input_faults(
         new.items ≡ text.items ++ flat_map (input_fault_text name.now faults.now) faults.now) }
 {
     for placed in faults {
-        text = with_told(text, name, faults, placed, &Fault::Inputs(placed.fault))?;
+        text = with_fault_line(text, name, faults, placed, &Fault::Inputs(placed.fault))?;
     }
     Ok(text)
 }

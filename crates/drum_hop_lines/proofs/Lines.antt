@@ -22,7 +22,7 @@ use Rattle.drum_hop_lines.specs.Pieces.{angles_text, fetch_text, held_text, name
 use Rattle.drum_hop_lines.specs.declared.sums.Sums.{Sums}
 use Rattle.drum_hop_lines.specs.Waits.{data_at, next_at}
 use Rattle.drum_hop_lines.specs.WaitsText.{kind_line}
-use Rattle.drum_hop_lines.specs.HeldText.{registers_text}
+use Rattle.drum_hop_lines.specs.ContentsText.{registers_text}
 use Rattle.drum_hop_lines.specs.TraceText.{stride_acted, stride_line}
 use Rattle.drum_hop_lines.specs.WalkText.{hop_text, visit_line}
 

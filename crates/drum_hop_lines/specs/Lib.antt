@@ -1,4 +1,4 @@
-pub mod HeldText
+pub mod ContentsText
 pub mod Moments
 pub mod MomentsText
 pub mod Pieces

@@ -8,7 +8,7 @@ use Rattle.drum_machine.specs.Contents.{Contents}
 use Rattle.drum_walks.specs.Visited.{Visited}
 use Rattle.drum_hop_lines.specs.declared.moments.Moments.{Moments}
 use Rattle.drum_hop_lines.specs.declared.sums.Sums.{Sums}
-use Rattle.drum_hop_lines.specs.HeldText.{acted_text, acting, registers_text}
+use Rattle.drum_hop_lines.specs.ContentsText.{acted_text, acting, registers_text}
 use Rattle.drum_hop_lines.specs.MomentsText.{moment_text, moments_text}
 
 -- a moment with its name, in numbers of any width, where there is one

@@ -9,7 +9,7 @@ use Rattle.drum_times.specs.declared.entry.Entry.{Entry}
 use Rattle.drum_machine.specs.Ending.{ended_by}
 use Rattle.drum_machine.specs.Run.{Stride, time_after}
 use Rattle.drum_machine.specs.Step.{contents_after, fetched, instruction_in}
-use Rattle.drum_hop_lines.specs.HeldText.{acted_text, acting, registers_text}
+use Rattle.drum_hop_lines.specs.ContentsText.{acted_text, acting, registers_text}
 use Rattle.drum_hop_lines.specs.Moments.{moments_of}
 use Rattle.drum_hop_lines.specs.MomentsText.{moments_text}
 

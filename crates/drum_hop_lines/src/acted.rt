@@ -5,7 +5,7 @@ ghost use Rattle.drum_core.specs.Op.{is_operand, op_of, operand_of};
 ghost use Rattle.drum_core.specs.Word.{spaced};
 ghost use Rattle.drum_machine.specs.WaysLeft.{seen_way};
 ghost use Rattle.drum_sheet.specs.Stands.{Passes};
-ghost use Rattle.drum_hop_lines.specs.HeldText.{acted_text, acting as acting_in, words_text};
+ghost use Rattle.drum_hop_lines.specs.ContentsText.{acted_text, acting as acting_in, words_text};
 
 use crate::timed_hop::TimedHop;
 use drum_core::{Op, Word};

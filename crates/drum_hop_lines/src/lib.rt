@@ -11,9 +11,9 @@
 //! waits, `sums` adds up what those of a kind take, and `waited` what all wait. `kind_line` puts
 //! the line of a kind, and `total_line` that of all hops. Numbers may be as large as a u128.
 //!
-//! Definitions, in the order to read them: `Moments`, `MomentsText`, `WalkText`, `HeldText` (what a
-//! machine holds after a step), `TraceText`, `Waits`, `WaitsText`. The others say what the code
-//! means by these. `StepOf` says which stride a step is of. `Pieces` are parts of lines, as the
+//! Definitions, in the order to read them: `Moments`, `MomentsText`, `WalkText`, `ContentsText`
+//! (what a machine holds after a step), `TraceText`, `Waits`, `WaitsText`. The others say what the
+//! code means by these. `StepOf` says which stride a step is of. `Pieces` are parts of lines, as the
 //! code puts them. `TimedHop` is a hop that is told, and `KindsOf` are kinds of hops and what they
 //! take and wait.
 //!

@@ -28,7 +28,7 @@ pub(crate) fn put_moment<O: Output, I: Integer>(
 }
 
 /// Puts moments, when the step ends, and these last bytes.
-fn put_told<O: Output, I: Integer>(
+fn put_all_moments<O: Output, I: Integer>(
     sheet: &mut Sheet,
     writer: &mut O,
     found: I,
@@ -65,7 +65,7 @@ pub fn put_times<O: Output>(
         ready,
         operand,
     } = *moments;
-    put_told(sheet, writer, found, ready, operand, ended, last);
+    put_all_moments(sheet, writer, found, ready, operand, ended, last);
 }
 
 /// A moment so many word times later; none where there is none.
@@ -96,5 +96,5 @@ pub fn put_times_later<O: Output>(
     let found = u128::from(moments.found) + by;
     let ready = later(moments.ready, by);
     let operand = later(moments.operand, by);
-    put_told(sheet, writer, found, ready, operand, ended, last);
+    put_all_moments(sheet, writer, found, ready, operand, ended, last);
 }

@@ -4,7 +4,7 @@ ghost use Rattle.std.specs.Prelude.{◌≡◌, List};
 ghost use Rattle.drum_machine.specs.declared.card.Card.{Card};
 ghost use Rattle.drum_emulator.specs.Machine.{held_by};
 ghost use Rattle.drum_sheet.specs.Stands.{Passes};
-ghost use Rattle.drum_hop_lines.specs.HeldText.{
+ghost use Rattle.drum_hop_lines.specs.ContentsText.{
   accumulator_text,
   latch_text as latch_of,
   registers_text,

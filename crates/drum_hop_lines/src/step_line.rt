@@ -53,7 +53,7 @@ fn word_of(step: &Step) -> Word
 }
 
 /// A step as a hop from the location where it begins, with `before` word times used before it.
-fn told_of(step: &Step, before: u64) -> TimedHop
+fn as_hop(step: &Step, before: u64) -> TimedHop
     ensures told { (times : Op → Entry) (stride : Stride) → IsToldOf times stride step.now
         → stride.origin.time ≡ before → seen_timed result ≡ visited (hop_of stride) }
     ensures begun { result.begun ≡ before }
@@ -131,7 +131,7 @@ fn put_course<O: Output>(
 
 /// Puts what a machine holds after a step, with what the step did to words of the drum, and ends
 /// the line.
-fn put_held<O: Output>(sheet: &mut Sheet, writer: &mut O, told: &TimedHop, machine: &Machine)
+fn put_contents<O: Output>(sheet: &mut Sheet, writer: &mut O, told: &TimedHop, machine: &Machine)
     ensures { (cards : List Card) →
         Passes (O.device writer.old) sheet.old (O.device writer.new) sheet.new
         (held_text (seen_timed told.now) (held_by machine.now cards)) }
@@ -159,8 +159,8 @@ pub fn put_step<O: Output>(
         → Passes (O.device writer.old) sheet.old (O.device writer.new) sheet.new
         (stride_line (entry_in times.now) number stride) }
 {
-    let told = told_of(step, before);
+    let told = as_hop(step, before);
     let moments = Moments::of(&told, times, angle);
     put_course(sheet, writer, number, word_of(step), &told, &moments);
-    put_held(sheet, writer, &told, machine);
+    put_contents(sheet, writer, &told, machine);
 }

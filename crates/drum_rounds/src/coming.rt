@@ -56,7 +56,7 @@ impl Stretch {
             onto: Some(from),
             time: 0,
             changes: changes_by(alloc, notes.marks(), None)?,
-            openings: openings::all_kept(alloc, notes.calls())?,
+            openings: openings::none_changed(alloc, notes.calls())?,
         })
     }
 

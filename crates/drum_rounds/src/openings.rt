@@ -15,7 +15,7 @@ use drum_times::Call;
 use std::alloc::{AllocError, Global};
 
 /// No step: nothing is asked, and all stays as it is.
-pub fn all_kept(alloc: Global, calls: &[Call]) -> Result<Vec<Opening>, AllocError>
+pub fn none_changed(alloc: Global, calls: &[Call]) -> Result<Vec<Opening>, AllocError>
     ensures { IfOk result (λ openings. AreRight calls.now [] openings.items) }
 {
     let kept = vec![in alloc; Opening::Kept; calls.len()]?;
@@ -54,7 +54,7 @@ pub fn of_hop(
 {
     match way {
         Way::To(onto) => of_step(alloc, calls, from, onto),
-        Way::Early | Way::Late => all_kept(alloc, calls),
+        Way::Early | Way::Late => none_changed(alloc, calls),
     }
 }
 

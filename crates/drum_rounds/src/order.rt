@@ -132,7 +132,7 @@ impl<'a> Order<'a> {
     }
 
     /// Whether the pieces are in order.
-    pub fn is_kept(&self) -> bool
+    pub fn are_in_order(&self) -> bool
         ensures { IsTrue result → AreInOrder self.now.pieces.now }
     {
         let Some(last) = self.pieces.len().checked_sub(1) else {

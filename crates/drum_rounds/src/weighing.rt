@@ -167,7 +167,7 @@ impl Setting<'_> {
         let Some(whole) = stretches.last() else {
             return Ok(None);
         };
-        if !self.is_from_start(whole) || !Order::of(alloc, &pieces)?.is_kept() {
+        if !self.is_from_start(whole) || !Order::of(alloc, &pieces)?.are_in_order() {
             return Ok(None);
         }
         let Some(told) = PieceTotals::of(alloc, &pieces, &stretches)? else {

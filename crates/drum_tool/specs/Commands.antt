@@ -18,7 +18,7 @@ use Rattle.drum_documents.specs.Documents.{Texts, setting_of}
 use Rattle.drum_documents.specs.Files.{AreHeld, AreHeldWithInputs, AreNotHeld, AreNotHeldWithInputs}
 use Rattle.drum_documents.specs.Files.{Contents}
 use Rattle.drum_documents.specs.Joined.{Gives, GivesNone}
-use Rattle.drum_documents.specs.TextsHeld.{AreNoneHeld, AreTextsHeld, IsInputsText}
+use Rattle.drum_documents.specs.TextsIn.{AreNoneHeld, AreTextsHeld, IsInputsText}
 use Rattle.drum_replay.specs.Given.{given}
 use Rattle.drum_limits.specs.Limits.{IsAnalysisFault}
 use Rattle.drum_replay.specs.Replay.{Given, IsReplayFault, IsTraceFault}

@@ -79,7 +79,7 @@ fn replayed(alloc: Global, place: usize, text: Tap<'_>) -> (Ran, u64, u128, u64)
 }
 
 /// That a read of a part which fails after the text's calls, or doesn't fail, is told of as such.
-fn is_told(rt: &(impl AllocGlobal + Abort), part: &Part, text: Tap<'_>, fails: bool) {
+fn says_fault(rt: &(impl AllocGlobal + Abort), part: &Part, text: Tap<'_>, fails: bool) {
     let (ran, _, _, failures) = replayed(rt.alloc(), part.place, text);
     let is_so = if fails {
         ran.is(Status::Failed, "", part.read)
@@ -97,7 +97,7 @@ fn byte_by_byte(rt: HostRuntime) {
         // One more call finds the end.
         let enough = (bytes.len() as u64).saturating_add(1);
         for calls in 0..=enough {
-            is_told(&rt, part, Tap::failing(bytes, calls), calls < enough);
+            says_fault(&rt, part, Tap::failing(bytes, calls), calls < enough);
         }
     }
 }
@@ -114,7 +114,7 @@ fn whatever_they_say(rt: HostRuntime) {
         for part in &PARTS {
             let mut text = Tap::failing(part.text.as_bytes(), 1);
             text.kind = kind;
-            is_told(&rt, part, text, true);
+            says_fault(&rt, part, text, true);
         }
     }
 }

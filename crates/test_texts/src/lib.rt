@@ -64,8 +64,10 @@ pub const BACK: &str = "[[mark]]\nfrom = 100\nto = 100\nmost = 3\n";
 pub const LOOPS: &str = "0100 +4501000110\n0110 +4501000120\n0120 +0100000120\nSTART 0100\n";
 
 /// A mark on the edge back of the outer loop, and one inside of it on that of the inner loop.
-pub const NESTED: &str =
-    "[[mark]]\nfrom = 110\nto = 100\nmost = 1\n[[mark]]\nfrom = 100\nto = 100\nmost = 2\ninside = 1\n";
+pub const NESTED: &str = "\
+[[mark]]\nfrom = 110\nto = 100\nmost = 1\n[[mark]]\nfrom = 100\nto = 100\nmost = 2\n\
+inside = 1\n\
+";
 
 /// Three marks: one of two edges with a name, one inside of it by its name, one by its number.
 pub const LONG_MARKS: &str = "\
@@ -75,16 +77,22 @@ pub const LONG_MARKS: &str = "\
 ";
 
 /// A deck that alters the word at 0210, by which it goes on at 0110 or at 0120.
-pub const TWO_ROADS: &str =
-    "0100 +6901500200\n0110 +6901510200\n0120 +0100000120\n0150 +0000000110 +0000000120\n0200 +2402100210\nSTART 0100\n";
+pub const TWO_ROADS: &str = "\
+0100 +6901500200\n0110 +6901510200\n0120 +0100000120\n0150 +0000000110 +0000000120\n\
+0200 +2402100210\nSTART 0100\n\
+";
 
 /// Its list.
-pub const ROADS: &str =
-    "[[list]]\nlocation = 210\npattern = [{ op = 0, d_from = 0, d_to = 0, i = 110 }, { op = 0, d_from = 0, d_to = 0, i = 120 }]\n";
+pub const ROADS: &str = "\
+[[list]]\nlocation = 210\npattern = [{ op = 0, d_from = 0, d_to = 0, i = 110 }, \
+{ op = 0, d_from = 0, d_to = 0, i = 120 }]\n\
+";
 
 /// Calls of the words from 0200 to the altered one, each with its way back.
-pub const TWO_CALLS: &str =
-    "[[call]]\nfrom = 100\nto = 200\nexit = 210\nback = 110\n[[call]]\nfrom = 110\nto = 200\nexit = 210\nback = 120\n";
+pub const TWO_CALLS: &str = "\
+[[call]]\nfrom = 100\nto = 200\nexit = 210\nback = 110\n[[call]]\nfrom = 110\nto = 200\n\
+exit = 210\nback = 120\n\
+";
 
 /// Marks on both edges that leave the altered word.
 pub const BOTH_ROADS: &str =
@@ -97,5 +105,7 @@ pub const EITHER: &str = "programmed = \"any\"\nload_cards = \"none\"\n";
 pub const STORES: &str = "0100 +2401060106\n0106 +0100000106\nSTART 0100\n";
 
 /// The least notes, and a list for that stop: any stop.
-pub const STOPS: &str =
-    "programmed = \"stop\"\nload_cards = \"none\"\n[[list]]\nlocation = 106\npattern = [{ op = 1, d_from = 0, d_to = 9999, i = 106 }]\n";
+pub const STOPS: &str = "\
+programmed = \"stop\"\nload_cards = \"none\"\n[[list]]\nlocation = 106\n\
+pattern = [{ op = 1, d_from = 0, d_to = 9999, i = 106 }]\n\
+";

@@ -70,7 +70,7 @@ fn setups(rt: HostRuntime) -> Result<(), Fail> {
 }
 
 /// Where a step goes on, unless it stops by 01, and the word times used then.
-fn told(step: &Step) -> Option<(u16, u64)> {
+fn gone_to(step: &Step) -> Option<(u16, u64)> {
     match step {
         Step::Went { next, used, .. } => Some((next.number(), *used)),
         Step::Stopped {
@@ -102,7 +102,7 @@ fn steps(
     for (next, used, left) in wanted {
         assert!(rt; machine.used() <= 1 << 62);
         let step = machine.step(times, &mut feed);
-        assert_eq!(rt; told(&step), Some((*next, *used)));
+        assert_eq!(rt; gone_to(&step), Some((*next, *used)));
         assert_eq!(rt; machine.used(), *used);
         assert_eq!(rt; monitor.check(notes, deck, &step), *left);
         assert_eq!(rt; monitor.left(), *left);

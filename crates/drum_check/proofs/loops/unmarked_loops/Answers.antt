@@ -42,7 +42,7 @@ returns-then-are_many c =
       length-map marked edge_of,
       length-map edges edge_of,
     ) in
-    IfOk-weaker c.told_alone.result
+    IfOk-weaker c.loops_alone.result
     (λ loops. map seen loops.items ≡ map (λ (edge : Edge). alone (edge_of edge)) c.deref.result.now)
     (λ loops. (all : List (ℕ × ℕ)) × AreClosing loads notes start all
     × AreLoops loads notes start (nodes_of flow) all (map seen loops.items))
@@ -53,7 +53,7 @@ returns-then-are_many c =
         many,
         told ∙ ap (map (λ (edge : Edge). alone (edge_of edge))) c.deref.ensures.value ∙ sym (map-map alone edge_of edges),
       ),
-    )) c.told_alone.ensures
+    )) c.loops_alone.ensures
 
 pub returns : goal.returns
 returns c =
@@ -83,7 +83,7 @@ returns c =
     let still : (sorted : List (ℕ × ℕ)) → IsPermutation (map edge_of edges) sorted
     → length (marked_edges notes) + length sorted ≤ 64 =
     λ sorted moved. omega (arith, few, length_permutation (map edge_of edges) sorted moved) in
-    IfOk-weaker c.told_in_order.result
+    IfOk-weaker c.loops_in_order.result
     (λ loops. (sorted : List (ℕ × ℕ)) × IsPermutation (map edge_of c.deref-3.result.now) sorted
     × AreFewestFirst (IsInsideIn flow) sorted × AreToldApart (IsInsideIn flow) notes sorted (map seen loops.items))
     (λ loops. (all : List (ℕ × ℕ)) × AreClosing loads notes start all
@@ -94,4 +94,4 @@ returns c =
       told.0,
       closing_moved loads notes start (map edge_of edges) told.0 moved c.in_ok-edges.ensures,
       inl (still told.0 moved, told.2, told.3),
-    )) c.told_in_order.ensures
+    )) c.loops_in_order.ensures

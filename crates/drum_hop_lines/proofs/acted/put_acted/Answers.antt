@@ -3,7 +3,7 @@ use Rattle.std.specs.Prelude.{codes}
 use Rattle.drum_core.specs.declared.op.Op.{Op}
 use Rattle.drum_machine.specs.Effect.{band}
 use Rattle.drum_sheet.proofs.Passing.{passes_as}
-use Rattle.drum_hop_lines.specs.HeldText.{acted_text, words_text}
+use Rattle.drum_hop_lines.specs.ContentsText.{acted_text, words_text}
 use Rattle.drum_hop_lines.proofs.acted.put_acted.Goals as goal
 
 pub returns-in-Some-Store : goal.returns-in-Some-Store

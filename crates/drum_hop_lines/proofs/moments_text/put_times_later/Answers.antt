@@ -7,4 +7,4 @@ pub returns : goal.returns
 returns g c =
     passes_as (later_told c.args.moments.now c.args.by c.args.ended (c.from.result + c.args.by) c.later-ready.result
     c.later-operand.result c.args.last.now (ap (λ (n : ℕ). n + c.args.by) c.from.ensures) c.later-ready.ensures
-    c.later-operand.ensures) c.put_told.ensures
+    c.later-operand.ensures) c.put_all_moments.ensures

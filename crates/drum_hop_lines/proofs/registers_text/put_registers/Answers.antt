@@ -4,7 +4,7 @@ use Rattle.std.proofs.lemmas.Int.{to_z-of_z, fits_signed_from_abs}
 use Rattle.std.specs.Prelude.{unsigned_abs}
 use Rattle.drum_core.specs.Word.{spelling}
 use Rattle.drum_sheet.proofs.Passing.{◌⊳◌, passes_as}
-use Rattle.drum_hop_lines.specs.HeldText.{accumulator_text, latch_text, remainder_text}
+use Rattle.drum_hop_lines.specs.ContentsText.{accumulator_text, latch_text, remainder_text}
 use Rattle.drum_hop_lines.proofs.registers_text.put_registers.Goals as goal
 
 -- the accumulator's number, handed on

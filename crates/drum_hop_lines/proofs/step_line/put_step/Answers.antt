@@ -10,8 +10,8 @@ use Rattle.drum_hop_lines.proofs.step_line.put_step.Goals as goal
 pub returns : goal.returns
 returns g c stride is =
     let times = entry_in c.args.times.now in
-    passes_as (stride_told times c.args.number c.args.angle stride (seen_timed c.told_of-told.result) c.word_of.result
+    passes_as (stride_told times c.args.number c.args.angle stride (seen_timed c.as_hop-told.result) c.word_of.result
     c.of-moments.result (held_by c.args.machine.now is.cards)
-    (c.told_of-told.ensures.told times stride is.told is.time)
+    (c.as_hop-told.ensures.told times stride is.told is.time)
     (c.word_of.ensures times stride is.told) is.start c.of-moments.ensures is.held)
-    (c.put_course.ensures ⊳ c.put_held.ensures is.cards)
+    (c.put_course.ensures ⊳ c.put_contents.ensures is.cards)

@@ -13,7 +13,7 @@ use Rattle.drum_faults.specs.NamedTexts.{named}
 use Rattle.drum_documents.specs.Asked.{name_in, named_with}
 use Rattle.drum_documents.specs.TextsOf.{inputs_in, texts_in}
 use Rattle.drum_documents.specs.Documents.{Texts}
-use Rattle.drum_documents.specs.TextsHeld.{IsInputsText}
+use Rattle.drum_documents.specs.TextsIn.{IsInputsText}
 use Rattle.drum_tool.specs.declared.checking.Checked.{Checked}
 use Rattle.drum_tool.specs.declared.checking.Checked.TheVariants.{Faulty, Sound}
 use Rattle.drum_tool.specs.Checked.{IsChecked}

@@ -28,7 +28,7 @@ returns c =
     c.in_ok-passes_of.ensures ∙ ap (map passes_by) c.deref-5.ensures.value in
     let order : AreInOrder pieces =
     subst AreInOrder (c.in_ok-of.ensures ∙ c.deref-else-not-is_from_start.ensures.value)
-    (c.is_kept.ensures c.if-not-is_kept.false) in
+    (c.are_in_order.ensures c.if-not-are_in_order.false) in
     let told = rw c.in-Some-2.is at c.in_ok-told.ensures in
     let lasting = c.in-Some-2.told.lasting.items in
     let often = c.in-Some-2.told.often.items in

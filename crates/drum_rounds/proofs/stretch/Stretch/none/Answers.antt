@@ -12,9 +12,9 @@ pub returns : goal.returns
 returns c g same =
     let marks : g.notes.marks ≡ c.marks.result.now = ap (λ (n : Notes). n.marks) same ∙ sym c.marks.ensures.all in
     let calls : c.calls.result.now ≡ g.notes.calls = c.calls.ensures.all ∙ ap (λ (n : Notes). n.calls) (sym same) in
-    let openings = c.in_ok-all_kept.field-0.items in
+    let openings = c.in_ok-none_changed.field-0.items in
     let right : AreRight g.notes.calls [] openings =
-    subst (λ (cs : List Call). AreRight cs [] openings) calls c.in_ok-all_kept.ensures in
+    subst (λ (cs : List Call). AreRight cs [] openings) calls c.in_ok-none_changed.ensures in
     let all : changes_by g.notes.marks None 0 g.notes.marks ≡ c.in_ok-changes_by.field-0.items =
     ap (λ (ms : List Mark). changes_by ms None 0 ms) marks ∙ sym c.in_ok-changes_by.ensures in
     subst (λ (changes : List Change). ComeTo g [] (record {

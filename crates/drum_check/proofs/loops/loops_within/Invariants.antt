@@ -4,7 +4,7 @@ use Rattle.drum_finding.specs.FindingOf.{seen}
 use Rattle.drum_finding.specs.Edges.{marks_of}
 use Rattle.drum_check.specs.FindingsOf.{IsInsideIn}
 use Rattle.drum_check.specs.Insides.{new_marks, AreToldInside, IsToldBehind}
-use Rattle.drum_check.proofs.loops.told_inside.Given as goal
+use Rattle.drum_check.proofs.loops.loops_within.Given as goal
 
 -- the loops of the edges so far are listed, and the marks that come with these stand behind the notes'
 abbrev pub invariant-loop-edge : goal.invariant-loop-edge

@@ -4,7 +4,7 @@ use Rattle.drum_machine.specs.Step.{fetched}
 use Rattle.drum_machine.specs.WaysLeft.{seen_way}
 use Rattle.drum_emulator.specs.Machine.{Tells}
 use Rattle.drum_hop_lines.proofs.Strides.{went_on, stopped_there}
-use Rattle.drum_hop_lines.proofs.step_line.told_of.Goals as goal
+use Rattle.drum_hop_lines.proofs.step_line.as_hop.Goals as goal
 
 pub returns-in-Went-clause-told : goal.returns-in-Went-clause-told
 returns-in-Went-clause-told c times stride told time =

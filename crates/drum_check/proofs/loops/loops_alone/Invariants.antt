@@ -4,7 +4,7 @@ use Rattle.drum_times.specs.EdgeOf.{edge_of}
 use Rattle.drum_finding.specs.Finding.{closes}
 use Rattle.drum_finding.specs.declared.within.Within.TheVariants as within
 use Rattle.drum_finding.specs.FindingOf.{seen}
-use Rattle.drum_check.proofs.loops.told_alone.Given as goal
+use Rattle.drum_check.proofs.loops.loops_alone.Given as goal
 
 -- the loops of the edges so far are listed
 abbrev pub invariant-loop-edge : goal.invariant-loop-edge

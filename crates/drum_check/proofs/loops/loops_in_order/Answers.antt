@@ -1,4 +1,4 @@
--- Of told_in_order: what is known is of the same flow graph.
+-- Of loops_in_order: what is known is of the same flow graph.
 use Rattle.std.proofs.Common.{ℕ, List, map, subst}
 use Rattle.std.specs.Prelude.{IsPermutation}
 use Rattle.std.proofs.lemmas.Result.{IfOk-weaker}
@@ -8,14 +8,14 @@ use Rattle.drum_flow.specs.declared.flow_graph.Flow.{Flow}
 use Rattle.drum_finding.specs.FindingOf.{seen}
 use Rattle.drum_check.specs.FindingsOf.{IsInsideIn}
 use Rattle.drum_check.specs.Insides.{AreFewestFirst, AreToldApart}
-use Rattle.drum_check.proofs.loops.told_in_order.Goals as goal
+use Rattle.drum_check.proofs.loops.loops_in_order.Goals as goal
 
 pub returns : goal.returns
 returns c =
     let flow = c.args.flow.now in
     let known = c.in_ok-nesting.nesting.flow.now in
     let sorted = c.in_ok-sorted.sorted.items in
-    IfOk-weaker c.told_apart.result
+    IfOk-weaker c.loops_sharing_marks.result
     (λ loops. AreToldApart (IsInsideIn known) known.notes.now (map edge_of c.deref-2.result.now) (map seen loops.items))
     (λ loops. (all : List (ℕ × ℕ)) × IsPermutation (map edge_of c.args.edges.now) all × AreFewestFirst (IsInsideIn flow) all
     × AreToldApart (IsInsideIn flow) flow.notes.now all (map seen loops.items))
@@ -28,4 +28,4 @@ returns c =
           c.in_ok-nesting.ensures.flow
           (subst (λ (xs : List Edge). AreToldApart (IsInsideIn known) known.notes.now (map edge_of xs) (map seen loops.items))
           c.deref-2.ensures.value told),
-    )) c.told_apart.ensures
+    )) c.loops_sharing_marks.ensures

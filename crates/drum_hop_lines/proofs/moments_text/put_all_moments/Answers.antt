@@ -1,5 +1,5 @@
 use Rattle.drum_sheet.proofs.Passing.{◌⊳◌}
-use Rattle.drum_hop_lines.proofs.moments_text.put_told.Goals as goal
+use Rattle.drum_hop_lines.proofs.moments_text.put_all_moments.Goals as goal
 
 pub returns : goal.returns
 returns g c =

@@ -1,4 +1,4 @@
--- Of told_inside: the loops so far have their marks. The marks before the one at hand are the notes'
+-- Of loops_within: the loops so far have their marks. The marks before the one at hand are the notes'
 -- and those that came with the edges so far: so what is so of these is so of all that stand before it.
 use Rattle.std.proofs.Common.{◌≡◌, ◌∷◌, [], ◌++◌, ℕ, ◌+◌, List, map, take, ap, sym, ◌∙◌, subst, append_assoc}
 use Rattle.std.proofs.lemmas.Grind.{flat_map-append}
@@ -14,7 +14,7 @@ use Rattle.drum_check.specs.Insides.{mark_on, new_mark, new_marks, AreToldInside
 use Rattle.drum_check.specs.Insides.{IsToldBehind}
 use Rattle.drum_check.proofs.Numbered.{edges_more}
 use Rattle.drum_check.proofs.Tellings.{told_more}
-use Rattle.drum_check.proofs.loops.told_inside.Goals as goal
+use Rattle.drum_check.proofs.loops.loops_within.Goals as goal
 
 pub loop-edge-preserved : goal.loop-edge-preserved
 loop-edge-preserved c =

@@ -3,8 +3,8 @@ use Rattle.drum_core.specs.declared.word.Word.{Word}
 use Rattle.drum_core.specs.Op.{op_of}
 use Rattle.drum_machine.specs.WaysLeft.{seen_way}
 use Rattle.drum_sheet.proofs.Passing.{◌⊳◌, passes_as}
-use Rattle.drum_hop_lines.specs.HeldText.{acted_text, acting}
-use Rattle.drum_hop_lines.proofs.step_line.put_held.Goals as goal
+use Rattle.drum_hop_lines.specs.ContentsText.{acted_text, acting}
+use Rattle.drum_hop_lines.proofs.step_line.put_contents.Goals as goal
 
 pub returns : goal.returns
 returns g c cards =

@@ -1,6 +1,6 @@
 use Rattle.std.proofs.Common.{rules}
 use Rattle.drum_rounds.proofs.OpeningLaws.{kept_right}
-use Rattle.drum_rounds.proofs.openings.all_kept.Goals as goal
+use Rattle.drum_rounds.proofs.openings.none_changed.Goals as goal
 
 pub returns : goal.returns
 returns c =
