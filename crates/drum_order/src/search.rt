@@ -213,7 +213,8 @@ impl Search {
 /// Where a node stands on a path.
 fn place_of(path: &[usize], node: usize) -> usize
     requires { Contains path.now node }
-    ensures { slice_get path.now result ≡ Some node }
+    ensures here { slice_get path.now result ≡ Some node }
+    ensures inside { result < length path.now }
 {
     for (at, other) in path.iter().enumerate() {
         if *other == node {

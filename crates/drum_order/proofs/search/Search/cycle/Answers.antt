@@ -11,7 +11,7 @@ returns c =
     let search = c.args.self.now in
     let at = c.place_of-at.result in
     let here : slice_get search.path.items at ≡ Some c.args.first =
-    sym (ap (λ (xs : List ℕ). slice_get xs at) c.deref.ensures.value) ∙ c.place_of-at.ensures in
+    sym (ap (λ (xs : List ℕ). slice_get xs at) c.deref.ensures.value) ∙ c.place_of-at.ensures.here in
     let cycle : IsCycle (row c.args.graph.now) (size c.args.graph.now) (drop at search.path.items) =
     cycle_closed (row c.args.graph.now) (size c.args.graph.now) search.states.items search.passed.items
     search.path.items search.finished.items at c.args.first c.requires.sound here c.requires.edge in
