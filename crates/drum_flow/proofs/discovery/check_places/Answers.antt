@@ -8,6 +8,7 @@ use Rattle.std.proofs.lemmas.List.{length-map}
 use Rattle.std.proofs.lemmas.Option.{same_Some, slice_get_within}
 use Rattle.drum_core.specs.declared.location.Location.{Location}
 use Rattle.drum_deck.specs.InDeck.{loads_in}
+use Rattle.drum_devices.proofs.Handed.{handed}
 use Rattle.drum_order.proofs.Lists.{contains_at}
 use Rattle.drum_flow.specs.Accepted.{IsGood}
 use Rattle.drum_flow.proofs.Founds.{number_at, numbers}
@@ -40,3 +41,16 @@ returns-clause-good c place there =
       length-map locations (λ (one : Location). one.number),
       c.loop-location-test.false,
     )) at.1
+
+pub returns-in_err-check_place-clause-refused : goal.returns-in_err-check_place-clause-refused
+returns-in_err-check_place-clause-refused c =
+    let locations = c.args.locations.now in
+    let turn = c.loop-location.location-index in
+    let location = c.location-item.result in
+    handed c.from_residual.result _ c.in_err-check_place.field-0.0 c.from_residual.ensures.1 (
+      turn,
+      location.number,
+      number_at locations (numbers locations) turn location refl c.loop-location-test.true c.location-item.is,
+      c.loop-location.invariant,
+      c.in_err-check_place.ensures.wrong,
+    )

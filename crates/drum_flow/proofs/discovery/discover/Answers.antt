@@ -1,12 +1,23 @@
-use Rattle.std.proofs.Common.{List, take, sym, ap, ◌∙◌, subst}
-use Rattle.std.proofs.lemmas.List.{take_all}
+use Rattle.std.proofs.Common.{List, take, sym, ap, ◌∙◌, subst, arith}
+use Rattle.std.proofs.lemmas.List.{length-map, take_all}
 use Rattle.drum_deck.specs.InDeck.{loads_in, start_in}
 use Rattle.drum_times.specs.declared.notes.call.Call.{Call}
 use Rattle.drum_flow.specs.Discovered.{IsDiscovered}
 use Rattle.drum_flow.specs.Executed.{each_place}
-use Rattle.drum_flow.specs.InNodes.{nodes_in}
+use Rattle.drum_flow.specs.InNodes.{node_of, nodes_in}
 use Rattle.drum_flow.proofs.Orders.{all_found}
 use Rattle.drum_flow.proofs.discovery.discover.Goals as goal
+
+pub invariant_of-result : goal.invariant_of-result
+invariant_of-result c =
+    let notes = c.args.notes.now in
+    let nodes = c.in-Whole.nodes in
+    let whole =
+    subst (IsDiscovered (loads_in c.args.deck.now) notes (start_in c.args.deck.now)) c.in-Whole.is c.in_ok-nodes.ensures in
+    record {
+      held = whole.1;
+      few = omega (arith, whole.2, length-map nodes.nodes.keys.items (node_of notes.calls nodes.openings.items));
+    }
 
 pub returns-clause-found : goal.returns-clause-found
 returns-clause-found c =
