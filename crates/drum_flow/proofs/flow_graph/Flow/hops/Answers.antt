@@ -1,4 +1,3 @@
-use Rattle.std.proofs.Common.{◌≡◌}
 use Rattle.drum_order.proofs.Lists.{contains_from_get}
 use Rattle.drum_flow.specs.Flow.{executed_in}
 use Rattle.drum_flow.proofs.flow_graph.Flow.hops.Goals as goal
