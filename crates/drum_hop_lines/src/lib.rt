@@ -13,9 +13,9 @@
 //!
 //! Definitions, in the order to read them: `Moments`, `MomentsText`, `WalkText`, `ContentsText`
 //! (what a machine holds after a step), `TraceText`, `Waits`, `WaitsText`. The others say what the
-//! code means by these. `StepOf` says which stride a step is of. `Pieces` are parts of lines, as the
-//! code puts them. `TimedHop` is a hop that is told, and `KindsOf` are kinds of hops and what they
-//! take and wait.
+//! code means by these. `StepOf` says which stride a step is of. `Pieces` are parts of lines, as
+//! the code puts them. `TimedHop` is a hop that is told, and `KindsOf` are kinds of hops and what
+//! they take and wait.
 //!
 //! Proofs. `Lines` puts lines together of their pieces, and `Strides` has what a step's answer
 //! tells of its stride. Of kinds: `SameKinds` (`==` of kinds), `KindRows` (where a map has a kind's
