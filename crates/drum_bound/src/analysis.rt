@@ -12,8 +12,8 @@ use std::alloc::{AllocError, Global};
 /// What [`analyse`](crate::analyse) finds for a deck with its timing table and notes. The hops of
 /// its walk follow one another in time, from 0 to the bound, and are 4,000,000 at most.
 ///
-/// Bound, table and turns are those of the table that was raised, entry by entry, by ends of hops;
-/// it is given up for them.
+/// Its bound, table and turns are read from the one table that was raised, entry by entry, by ends
+/// of hops, which is then given up.
 #[derive(Debug, Drop)]
 pub struct Analysis {
     table: Vec<Worst>,
@@ -28,6 +28,7 @@ pub struct Analysis {
     /// the last mark means nothing.
     passed: [u64; Mark::MOST],
     ghost in_time: { ∥ AreInTime 0 (map seen_visit walk.items) bound ∥₁ },
+    ghost on_drum: { angle < 50 },
     ghost below: { bound < 2 ^ 50 },
     ghost few: { length walk.items ≤ 4000000 },
 }

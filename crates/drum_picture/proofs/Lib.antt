@@ -1,1 +1,1 @@
-pub mod Pictured
+mod Pictured
