@@ -4,6 +4,8 @@ where it is older than a source of it."""
 import os
 import sys
 
+from crates import Crates
+
 TOP = os.path.dirname(os.path.dirname(os.path.abspath(__file__)))
 # What ./drum650 builds, and what the toolchain builds in the program's crate.
 BUILT = [os.path.join(TOP, path) for path in ("out/drum650", "crates/drum650/out/drum650")]
@@ -11,29 +13,13 @@ BUILT = [os.path.join(TOP, path) for path in ("out/drum650", "crates/drum650/out
 TOLD = "DRUM650_TOLD"
 
 
-def own_crates():
-    """The crates that the program is made of, as crates.txt names them."""
-    with open(os.path.join(TOP, "crates.txt")) as file:
-        lines = [line.split(":") for line in file if line[0].isalpha()]
-    uses = {name: used.split() for name, used in lines}
-    found, left = set(), ["drum650"]
-    while left:
-        name = left.pop()
-        if name in uses and name not in found:
-            found.add(name)
-            left += uses[name]
-    return found
-
-
 def sources():
     """The files that the program is made of: where one is newer, ./drum650 builds it anew."""
     yield os.path.join(TOP, "crates.txt")
-    for crate in own_crates():
-        for part in ("src", "specs"):
-            for folder, _, names in os.walk(os.path.join(TOP, "crates", crate, part)):
-                paths = [os.path.join(folder, name) for name in names]
-                # An editor's lock is a link to no file.
-                yield from filter(os.path.isfile, paths)
+    crates = Crates(TOP)
+    for crate in [*crates.below("drum650"), "drum650"]:
+        # An editor's lock is a link to no file.
+        yield from filter(os.path.isfile, crates.files(crate, ("src", "specs")))
 
 
 def written(path):

@@ -43,7 +43,7 @@ fn sound_flow<'a>(alloc: Global, deck: &'a Deck, notes: &'a Notes) -> Result<Flo
 
 /// The flow graph of an admitted deck under its notes, with an order of its nodes in which every
 /// edge free of marks goes on.
-#[derive(Debug, Drop)]
+#[derive(Drop)]
 pub struct AcceptedFlow<'a> {
     flow: Flow<'a>,
     order: FreeOrder,

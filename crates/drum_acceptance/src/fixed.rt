@@ -7,7 +7,7 @@ use drum_times::Notes;
 use std::alloc::{AllocError, Global};
 
 /// The executed locations without a list, by their numbers: no instruction may write into these.
-#[derive(Debug, Drop)]
+#[derive(Drop)]
 pub struct Fixed {
     flags: Vec<bool>,
 }

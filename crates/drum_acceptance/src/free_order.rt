@@ -15,7 +15,7 @@ use drum_order::{Graph, Sorted, sort};
 use std::alloc::{AllocError, Global};
 
 /// An order of the nodes in which every edge free of marks goes on.
-#[derive(Debug, Drop)]
+#[derive(Drop)]
 pub struct FreeOrder {
     /// The indices of the nodes.
     pub nodes: Vec<usize>,

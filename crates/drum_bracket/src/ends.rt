@@ -10,7 +10,7 @@ use drum_walks::Piece;
 use std::alloc::{AllocError, Global};
 
 /// The location of the first hop of a piece, and that of the last.
-#[derive(Clone, Copy, Debug)]
+#[derive(Clone, Copy)]
 pub struct Ends {
     pub first: Location,
     pub last: Location,

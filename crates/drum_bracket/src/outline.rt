@@ -10,7 +10,7 @@ use std::alloc::{AllocError, Global};
 
 /// What has to be known of a walk's pieces before its first line goes out, with room for what is
 /// noted while it is written.
-#[derive(Debug, Drop)]
+#[derive(Drop)]
 pub struct Outline {
     pub(crate) ends: Vec<Option<Ends>>,
     pub(crate) named: Vec<usize>,

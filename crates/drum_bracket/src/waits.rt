@@ -37,7 +37,7 @@ pub fn all_waits_in_rounds(walk: &InRounds, times: &Times) -> Waited
 /// Where the word times of a walk in rounds go: what its hops of each kind take in all, the dearest
 /// kind first, and what all its hops wait. Hops are of one kind that begin at one location, with
 /// one instruction, and end in one way.
-#[derive(Debug, Drop)]
+#[derive(Drop)]
 pub struct WaitsInRounds {
     rows: Vec<KindRow>,
     waited: Waited,

@@ -8,7 +8,7 @@ use drum_rows::{SiteEdge, SiteRow};
 use std::alloc::{AllocError, Global};
 
 /// A way that passes a mark with its last edge, and no other edge of it.
-#[derive(Clone, Copy, PartialEq)]
+#[derive(Clone, Copy, PartialEq, Eq)]
 pub struct Round {
     /// The word times that it takes, less prices, with what is ahead of its end.
     pub time: i128,

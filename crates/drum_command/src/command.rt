@@ -1,7 +1,7 @@
 //! What a command line asks for.
 
 /// The files that every command works on.
-#[derive(Clone, Copy, Debug, PartialEq, Eq)]
+#[derive(Clone, Copy)]
 pub struct Files<'a> {
     /// The deck: cards for the drum.
     pub deck: &'a str,
@@ -12,7 +12,7 @@ pub struct Files<'a> {
 }
 
 /// What is asked of a deck with its timing table and notes.
-#[derive(Clone, Copy, Debug, PartialEq, Eq)]
+#[derive(Clone, Copy)]
 pub enum Question {
     /// The most word times that any run takes that keeps to the notes.
     Bound,
@@ -38,7 +38,7 @@ pub enum Question {
 }
 
 /// What a command line asks for.
-#[derive(Clone, Copy, Debug, PartialEq, Eq)]
+#[derive(Clone, Copy)]
 pub enum Command<'a> {
     /// The answer to a question.
     Answer(Question, Files<'a>),

@@ -6,7 +6,7 @@ use clap::error::ErrorKind;
 use std::alloc::Global;
 
 /// Why a command line has no command. The texts are for the user.
-#[derive(Debug, Drop)]
+#[derive(Drop)]
 pub enum Refused {
     /// Help was asked for: the text is the help.
     Help(String),

@@ -23,7 +23,7 @@ pub struct Given {
 
 /// A deck: which words it loads onto the drum, from which cards, and where the program starts. Each
 /// deck is what some lines of text say, 4000 at most.
-#[derive(Debug, PartialEq, Eq, Drop)]
+#[derive(Debug, Drop, PartialEq, Eq)]
 pub struct Deck {
     image: Vec<Option<Given>>,
     cards: Vec<u16>,

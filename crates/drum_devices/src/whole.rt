@@ -60,7 +60,7 @@ pub fn read_whole<I: Input>(
 {
     let mut text = Vec::new(alloc);
     let mut chunk = [0; CHUNK];
-    for _ in 0..=limit {
+    while text.len() <= limit {
         let room = CHUNK.min(limit + 1 - text.len());
         let Ok(count) = input.read(&mut chunk[..room]) else {
             return Err(WholeError::Read);
@@ -70,9 +70,6 @@ pub fn read_whole<I: Input>(
         }
         if text.extend_from_slice(&chunk[..count]).is_err() {
             return Err(WholeError::Memory);
-        }
-        if text.len() > limit {
-            return Err(WholeError::TooLong);
         }
     }
     Err(WholeError::TooLong)

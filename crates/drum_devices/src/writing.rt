@@ -6,7 +6,7 @@ use crate::output::Output;
 use std::io::Write;
 
 /// An output over any writer of `std`. It tells which bytes it was given where the writer does.
-#[derive(Debug, Drop)]
+#[derive(Drop)]
 pub struct Writing<W: Write> {
     /// The writer.
     pub writer: W,

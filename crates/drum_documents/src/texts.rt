@@ -18,7 +18,7 @@ use drum_lines::{Fault, Part};
 use std::alloc::Global;
 
 /// The bytes of a deck, a timing table and notes.
-#[derive(Debug, Drop)]
+#[derive(Drop)]
 pub struct Texts {
     pub deck: Vec<u8>,
     pub times: Vec<u8>,

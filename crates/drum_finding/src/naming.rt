@@ -3,7 +3,7 @@ use drum_core::Op;
 /// Which words of the drum an operation names as data, by its data address D.
 ///
 /// Source: the IBM 650 Manual of Operation.
-#[derive(Clone, Copy, PartialEq, Eq)]
+#[derive(Clone, Copy)]
 pub enum Naming {
     /// None.
     Nothing,

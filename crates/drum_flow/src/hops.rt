@@ -23,7 +23,7 @@ pub struct Hop {
 }
 
 /// The hops of a location, in order: each instruction that is allowed there, with each of its ways.
-#[derive(Clone, Copy, Debug)]
+#[derive(Clone, Copy)]
 pub struct Hops<'a> {
     notes: &'a Notes,
     /// The instructions that come after the one that it is at.

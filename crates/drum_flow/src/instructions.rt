@@ -12,7 +12,7 @@ use drum_times::{Notes, Pattern};
 
 /// The instructions that are allowed at a location, in order: the deck's, if it loads the location,
 /// and then those of each pattern, D ascending.
-#[derive(Clone, Copy, Debug)]
+#[derive(Clone, Copy)]
 pub struct Instructions<'a> {
     loaded: Option<Instruction>,
     patterns: &'a [Pattern],

@@ -15,7 +15,7 @@ use drum_times::{Notes, Pattern};
 
 /// The patterns whose instructions are allowed at a location, in order: the deck's instruction, if
 /// it loads the location, as a pattern of one data address, and then those of the location's list.
-#[derive(Clone, Copy, Debug)]
+#[derive(Clone, Copy)]
 pub struct Patterns<'a> {
     loaded: Option<Pattern>,
     listed: &'a [Pattern],

@@ -10,7 +10,7 @@ use std::alloc::{AllocError, Global};
 
 /// What is drawn of the flow graph of a deck: its executed words, in the order of discovery, or the
 /// boxes of its outline, the edges that close its loops and lack a mark, and where it starts.
-#[derive(Debug, Drop)]
+#[derive(Drop)]
 pub struct Graph {
     pub(crate) nodes: Vec<Node>,
     pub(crate) loops: Loops,

@@ -10,14 +10,14 @@ use drum_times::Edge;
 use std::alloc::{AllocError, Global};
 
 /// Where an edge leads from, and where it leads.
-#[derive(Clone, Copy, Debug, PartialEq, Eq, Hash)]
+#[derive(Clone, Copy, PartialEq, Eq, Hash)]
 pub(crate) struct Ends {
     pub(crate) from: Location,
     pub(crate) onto: Location,
 }
 
 /// The edges that close the loops of a flow graph.
-#[derive(Debug, Drop)]
+#[derive(Drop)]
 pub(crate) struct Loops {
     pub(crate) edges: Distinct<Ends>,
 }

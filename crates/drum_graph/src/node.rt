@@ -14,7 +14,7 @@ use std::alloc::{AllocError, Global};
 /// profile, whether one of its instructions may stop the run, where they go on, and which executed
 /// words they write. In an outline it may be several words that go straight on from one to the
 /// next.
-#[derive(Debug, Drop)]
+#[derive(Drop)]
 pub(crate) struct Node {
     pub(crate) location: Location,
     pub(crate) further: Vec<Location>,

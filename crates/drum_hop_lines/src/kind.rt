@@ -3,7 +3,7 @@ use drum_machine::Way;
 use drum_walks::Visit;
 
 /// What the hops of one kind have in common: where they begin, their instruction, and how they end.
-#[derive(Clone, Copy, Debug, PartialEq, Eq, Hash)]
+#[derive(Clone, Copy, PartialEq, Eq, Hash)]
 pub struct Kind {
     /// Where they begin.
     pub place: Location,

@@ -7,7 +7,7 @@ use drum_machine::moments::{found, reached};
 use drum_times::Times;
 
 /// When an instruction is found, is ready and has its data, in word times used.
-#[derive(Clone, Copy, Debug, PartialEq, Eq)]
+#[derive(Clone, Copy)]
 pub struct Moments {
     /// When its word can be had: on the drum, when its location comes under the heads.
     pub found: u64,

@@ -27,7 +27,7 @@ fn card_wait(told: &TimedHop, times: &Times) -> u32
 }
 
 /// What a hop takes, in word times.
-#[derive(Clone, Copy, Debug, PartialEq, Eq)]
+#[derive(Clone, Copy)]
 pub struct Spent {
     /// In all, from the search for its instruction to its end.
     pub time: u64,

@@ -1,7 +1,7 @@
 use crate::spent::Spent;
 
 /// What hops of one kind take in all.
-#[derive(Clone, Copy, Debug, PartialEq, Eq)]
+#[derive(Clone, Copy)]
 pub struct Sums {
     /// How many hops there are.
     pub visits: u128,

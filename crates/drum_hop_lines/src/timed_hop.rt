@@ -10,7 +10,7 @@ use drum_walks::Visit;
 
 /// A hop as its line tells it: of a walk, of a step that is handed in, or of a piece. A step may
 /// end at any moment, so it is no [`Visit`].
-#[derive(Clone, Copy, Debug, PartialEq, Eq)]
+#[derive(Clone, Copy)]
 pub struct TimedHop {
     /// Where it begins.
     pub place: Location,

@@ -1,7 +1,7 @@
 use crate::spent::Spent;
 
 /// What all hops of a walk wait, in word times.
-#[derive(Clone, Copy, Debug, PartialEq, Eq)]
+#[derive(Clone, Copy)]
 pub struct Waited {
     /// For their instructions, until these are found.
     pub instruction: u128,

@@ -8,7 +8,7 @@ pub use listing::put_table;
 use std::alloc::{AllocError, Global};
 
 /// The table of worst times, by location and, of one location, by the number of the counts.
-#[derive(Debug, Drop)]
+#[derive(Drop)]
 pub struct Table {
     rows: Vec<Worst>,
 }

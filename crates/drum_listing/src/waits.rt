@@ -29,7 +29,7 @@ pub fn all_waits(analysis: &Analysis, times: &Times) -> Waited
 /// Where the word times of a walk go: what the hops of each kind take in all, the dearest kind
 /// first, and what all hops wait. Hops are of one kind that begin at one location, with one
 /// instruction, and end in one way.
-#[derive(Debug, Drop)]
+#[derive(Drop)]
 pub struct Waits {
     rows: Vec<Wait>,
     waited: Waited,

@@ -10,7 +10,7 @@ use drum_times::Mark;
 
 /// How often each mark was passed since the last pass of one that it stands inside of, by the
 /// marks' indices. The counts past the last mark mean nothing.
-#[derive(Clone, Copy, Debug)]
+#[derive(Clone, Copy)]
 pub struct Counts {
     pub passes: [u16; Mark::MOST],
 }

@@ -21,7 +21,7 @@ pub enum Way {
 
 /// The ways that are left of an instruction, three at most: Early, the next locations in order,
 /// Late. An address that is no location is a stop at the end.
-#[derive(Clone, Copy, Debug)]
+#[derive(Clone, Copy)]
 pub struct Ways {
     stops_early: bool,
     branch: Option<u16>,

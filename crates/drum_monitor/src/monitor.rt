@@ -16,7 +16,7 @@ use drum_machine::{Counts, Left, Open};
 use drum_times::{Call, Mark, Notes, Programmed};
 
 /// Watches the steps of a run, and says whether and how the run leaves the notes.
-#[derive(Debug, Drop)]
+#[derive(Drop)]
 pub struct Monitor {
     counts: Counts,
     exits: Open,

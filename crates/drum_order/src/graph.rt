@@ -4,7 +4,7 @@ ghost use Rattle.std.specs.Prelude.{◌≡◌, ℕ, ◌<◌, length};
 ghost use Rattle.drum_order.specs.Rows.{AreWithin};
 
 /// A graph: its nodes are numbered from 0, and each has a row of the nodes that its edges lead to.
-#[derive(Debug, Drop)]
+#[derive(Drop)]
 pub struct Graph {
     rows: Vec<Vec<usize>>,
     ghost within: { AreWithin rows.items },

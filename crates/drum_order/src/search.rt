@@ -48,6 +48,7 @@ impl Search {
     }
 
     /// Goes on to a new node, to which an edge of the path's last node leads, if it has one.
+    #[tactic(auto, using(std::proofs::lemmas::Grind::elements))]
     pub fn enter(&mut self, graph: &Graph, node: usize) -> Result<(), AllocError>
         requires sound { Searches (row graph.now) (size graph.now) self.old }
         requires new { slice_get self.old.states.items node ≡ Some New }
@@ -80,6 +81,7 @@ impl Search {
     }
 
     /// The next node of a node's row that isn't finished; `None` where all are.
+    #[tactic(auto, using(std::proofs::lemmas::Grind::elements))]
     fn pass(&mut self, graph: &Graph, node: usize) -> Option<usize>
         requires sound { Searches (row graph.now) (size graph.now) self.old }
         requires within { node < size graph.now }
@@ -153,6 +155,7 @@ impl Search {
     }
 
     /// Finishes the path's nodes; a cycle where one is met.
+    #[tactic(auto, using(std::proofs::lemmas::Grind::elements))]
     fn finish(&mut self, alloc: Global, graph: &Graph) -> Result<Option<Vec<usize>>, AllocError>
         requires { Searches (row graph.now) (size graph.now) self.old }
         ensures sound { IfOk result (λ found. IfNone found
@@ -211,6 +214,7 @@ impl Search {
 }
 
 /// Where a node stands on a path.
+#[tactic(auto, using(std::proofs::lemmas::Grind::elements))]
 fn place_of(path: &[usize], node: usize) -> usize
     requires { Contains path.now node }
     ensures here { slice_get path.now result ≡ Some node }
@@ -233,6 +237,7 @@ fn node_at(row: &[usize], at: usize) -> Option<usize>
 
 /// The index of the first node of a row, from an index on, that isn't finished; the row's length
 /// where all are.
+#[tactic(auto, using(std::proofs::lemmas::Grind::elements))]
 fn first_unfinished(states: &[Progress], row: &[usize], from: usize) -> usize
     requires within { (next : ℕ) → Contains row.now next → next < length states.now }
     ensures finished { (k next : ℕ) → from ≤ k → k < result → slice_get row.now k ≡ Some next

@@ -1,5 +1,5 @@
 /// What sorting a graph's nodes gives.
-#[derive(Debug, Drop)]
+#[derive(Drop)]
 pub enum Sorted {
     /// All nodes, in an order in which every edge goes on.
     Ordered(Vec<usize>),

@@ -23,7 +23,7 @@ use std::alloc::{AllocError, Global};
 
 /// How often the marks of notes were passed in a run at most, and which patterns of their lists
 /// were met.
-#[derive(Debug, Drop)]
+#[derive(Drop)]
 pub struct Coverage {
     counts: Counts,
     /// The highest that each of these counts was.

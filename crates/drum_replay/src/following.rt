@@ -20,7 +20,7 @@ use drum_monitor::Monitor;
 use drum_times::{Notes, Times};
 
 /// A run, as far as it was followed.
-#[derive(Debug, Drop)]
+#[derive(Drop)]
 pub struct Following {
     pub machine: Machine,
     pub monitor: Monitor,

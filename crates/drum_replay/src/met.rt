@@ -11,7 +11,7 @@ use std::alloc::{AllocError, Global};
 use std::marker::Model;
 
 /// Which patterns of a list were met, by their order in the list.
-#[derive(Debug, Drop)]
+#[derive(Drop)]
 pub struct Met {
     flags: Vec<bool>,
 }

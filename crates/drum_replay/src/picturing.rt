@@ -27,7 +27,7 @@ use drum_times::{Notes, Times};
 use std::alloc::{AllocError, Global};
 
 /// A run that was followed to its verdict, and drawn.
-#[derive(Debug, Drop)]
+#[derive(Drop)]
 pub struct Pictured {
     pub verdict: Verdict,
     /// The picture, an SVG document.

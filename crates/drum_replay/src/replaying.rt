@@ -22,7 +22,7 @@ use drum_times::{Notes, Times};
 use std::alloc::Global;
 
 /// A run before its first step.
-#[derive(Debug, Drop)]
+#[derive(Drop)]
 pub struct Begun {
     pub following: Following,
     /// The drum's angle at time 0.
@@ -36,7 +36,7 @@ pub struct Begun {
 }
 
 /// A trace before its first step.
-#[derive(Debug, Drop)]
+#[derive(Drop)]
 pub struct BegunTrace {
     pub begun: Begun,
     pub coverage: Coverage,

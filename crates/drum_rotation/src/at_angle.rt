@@ -4,7 +4,7 @@ use crate::clockwork::Clockwork;
 use drum_core::REVOLUTION;
 
 /// The wait until the drum is at an angle: 0 to 49 word times.
-#[derive(Clone, Copy, Debug, PartialEq, Eq)]
+#[derive(Clone, Copy)]
 pub struct AtAngle {
     /// The angle, below 50.
     pub angle: u8,

@@ -4,7 +4,7 @@ use crate::clockwork::Clockwork;
 use drum_core::Parity;
 
 /// The wait until the drum is at an angle of a parity: one word time at most.
-#[derive(Clone, Copy, Debug, PartialEq, Eq)]
+#[derive(Clone, Copy)]
 pub struct AtParity {
     /// The parity of the angle.
     pub parity: Parity,

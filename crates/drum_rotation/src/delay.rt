@@ -4,7 +4,7 @@ ghost use Rattle.std.proofs.Common.{rules};
 use crate::clockwork::Clockwork;
 
 /// A delay of a number of word times.
-#[derive(Clone, Copy, Debug, PartialEq, Eq)]
+#[derive(Clone, Copy)]
 pub struct Delay {
     /// Word times, 2^40 at most.
     pub word_times: u64,

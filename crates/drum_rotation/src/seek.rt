@@ -9,7 +9,7 @@ use drum_core::{Kind, Location, Parity, REVOLUTION};
 /// once, 8002 at even angles, 8003 at odd ones.
 ///
 /// Source: the IBM 650 Manual of Operation, of drum words alone.
-#[derive(Clone, Copy, Debug, PartialEq, Eq)]
+#[derive(Clone, Copy)]
 pub struct Seek {
     /// The location that is sought.
     pub location: Location,

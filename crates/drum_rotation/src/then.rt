@@ -4,7 +4,7 @@ ghost use Rattle.std.proofs.Common.{ap, arith, ◌∙◌};
 use crate::clockwork::Clockwork;
 
 /// One clockwork after another: the second begins at the moment that the first goes on to.
-#[derive(Debug, Drop)]
+#[derive(Drop)]
 pub struct Then<A: Clockwork, B: Clockwork> {
     /// What comes first.
     pub first: A,

@@ -16,7 +16,7 @@ use drum_machine::{Way, Ways};
 use drum_times::{Notes, Times};
 
 /// What walks are walks of: a deck, its timing table and its notes.
-#[derive(Clone, Copy, Debug)]
+#[derive(Clone, Copy)]
 pub struct Setting<'a> {
     pub deck: &'a Deck,
     pub times: &'a Times,

@@ -6,8 +6,8 @@ use crate::walks::{Walk, Walks};
 use drum_rows::SiteRow;
 use drum_times::Times;
 use drum_walks::Piece;
-use indexmap::IndexMap;
 use std::alloc::{AllocError, Global};
+use std::collections::HashMap;
 
 /// A walk that begins at an angle.
 #[derive(Clone, Copy, PartialEq, Eq, Hash)]
@@ -24,7 +24,7 @@ pub struct Building<'a> {
     sources: &'a Sources,
     walks: &'a Walks,
     laying: Laying<'a>,
-    laid: IndexMap<Begun, Laid>,
+    laid: HashMap<Begun, Laid>,
 }
 
 impl<'a> Building<'a> {
@@ -41,7 +41,7 @@ impl<'a> Building<'a> {
             sources,
             walks,
             laying: Laying::new(alloc, times, rows),
-            laid: IndexMap::new(alloc),
+            laid: HashMap::new(alloc),
         }
     }
 

@@ -7,8 +7,8 @@ use drum_flow::Hop;
 use drum_rows::SiteRow;
 use drum_times::Times;
 use drum_walks::{Piece, Placed, Rounds};
-use indexmap::IndexMap;
 use std::alloc::{AllocError, Global};
+use std::collections::HashMap;
 
 /// A piece that is there.
 #[derive(Clone, Copy)]
@@ -36,7 +36,7 @@ pub struct Laying<'a> {
     times: &'a Times,
     rows: &'a [SiteRow],
     pieces: Vec<Piece>,
-    hops: IndexMap<Begun, Laid>,
+    hops: HashMap<Begun, Laid>,
     /// How many pieces are named by others, in all.
     named: usize,
 }
@@ -55,7 +55,7 @@ impl<'a> Laying<'a> {
             times,
             rows,
             pieces: Vec::new(alloc),
-            hops: IndexMap::new(alloc),
+            hops: HashMap::new(alloc),
             named: 0,
         }
     }

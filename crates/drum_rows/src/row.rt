@@ -4,7 +4,7 @@ use crate::slot::Slot;
 use drum_flow::Hop;
 
 /// The hops that lead from where one instruction is found to where another is.
-#[derive(Clone, Copy, Debug, PartialEq, Eq)]
+#[derive(Clone, Copy)]
 pub struct Edge {
     /// Where they lead.
     pub onto: Slot,
@@ -20,7 +20,7 @@ pub struct Edge {
 }
 
 /// What the hops of a location take at most, from when its instruction is found at one angle.
-#[derive(Debug, Drop)]
+#[derive(Drop)]
 pub struct Row {
     /// The most word times until one of them without a mark ends, and 49 more; 0 of none.
     pub stop: u32,

@@ -19,7 +19,7 @@ use drum_flow::{Flow, Hop};
 use std::alloc::{AllocError, Global};
 
 /// The hops that lead from one site to another.
-#[derive(Clone, Copy, Debug, PartialEq, Eq)]
+#[derive(Clone, Copy)]
 pub struct SiteEdge {
     /// The number of the site that they lead to.
     pub onto: usize,
@@ -35,7 +35,7 @@ pub struct SiteEdge {
 }
 
 /// What the hops from a site take at most.
-#[derive(Debug, Drop)]
+#[derive(Drop)]
 pub struct SiteRow {
     /// The location of the site's node.
     pub location: Location,

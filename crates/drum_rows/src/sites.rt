@@ -10,7 +10,7 @@ use drum_order::Distinct;
 use std::alloc::{AllocError, Global};
 
 /// A node of the flow graph, with an angle at which the instruction at its location is found.
-#[derive(Clone, Copy, Debug, PartialEq, Eq, Hash)]
+#[derive(Clone, Copy, PartialEq, Eq, Hash)]
 pub struct Site {
     /// The index of the node in the order of discovery.
     pub node: usize,
@@ -19,7 +19,7 @@ pub struct Site {
 }
 
 /// All sites of a flow graph, node by node, numbered from 0.
-#[derive(Debug, Drop)]
+#[derive(Drop)]
 pub struct Sites {
     sites: Distinct<Site>,
 }

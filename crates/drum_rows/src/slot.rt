@@ -6,7 +6,7 @@ use drum_core::{Location, REVOLUTION};
 
 /// A location with an angle at which its instruction is found, as one number: a drum location is
 /// found at one angle alone, each of 8000 to 8003 may be found at fifty.
-#[derive(Clone, Copy, Debug, PartialEq, Eq)]
+#[derive(Clone, Copy)]
 pub struct Slot {
     pub number: u16,
     pub ghost within: { number < 2200 },

@@ -6,7 +6,7 @@ ghost use Rattle.drum_toml.specs.Complaint.{Complains};
 use std::alloc::{AllocError, Global};
 
 /// What `toml` says of bytes that are no document, and at which place in them.
-#[derive(Debug, Drop, PartialEq, Eq)]
+#[derive(Drop)]
 pub struct Complaint {
     /// The line, from 1.
     pub line: usize,

@@ -32,7 +32,7 @@ use drum_toml::laws::{says_long_notes, says_times};
 use std::alloc::Global;
 
 /// What a check of texts comes to.
-#[derive(Debug, Drop)]
+#[derive(Drop)]
 pub enum Checked {
     /// The lines of the faults that the texts have.
     Faulty(Vec<u8>),

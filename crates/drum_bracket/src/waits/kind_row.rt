@@ -8,7 +8,7 @@ use drum_times::Times;
 use drum_walks::Placed;
 
 /// What all hops of a kind take, with the first piece that is one of them.
-#[derive(Clone, Copy, Debug)]
+#[derive(Clone, Copy)]
 pub struct KindRow {
     /// The number of that piece.
     pub number: usize,

@@ -7,7 +7,7 @@ ghost use Rattle.drum_deck.specs.Lines.{lines_of, IsLonger};
 
 /// The lines of a text: its parts between line feeds. The last may lack its line feed, and a text
 /// that ends with one has no empty line after it.
-#[derive(Clone, Copy, Debug)]
+#[derive(Clone, Copy)]
 pub struct Lines<'a> {
     /// The bytes of the lines that are left.
     pub rest: &'a [u8],

@@ -2,7 +2,7 @@ use drum_hop_lines::Sums;
 use drum_walks::Visit;
 
 /// The hops of a kind: the first of them, and what they take in all.
-#[derive(Clone, Copy, Debug)]
+#[derive(Clone, Copy)]
 pub struct Wait {
     /// The first of them.
     pub first: Visit,

@@ -13,7 +13,7 @@ use drum_times::{KeyPath, NoteFault};
 use toml::Value;
 
 /// What is wrong with a value.
-#[derive(Clone, Copy, PartialEq, Eq)]
+#[derive(Clone, Copy)]
 pub enum ValueFault {
     /// It is of another kind.
     Kind,

@@ -9,7 +9,7 @@ use drum_times::{NoteFault, Notes};
 use std::alloc::Global;
 
 /// Which notes are read.
-#[derive(Clone, Copy, Debug, PartialEq, Eq)]
+#[derive(Clone, Copy)]
 pub enum NotesRead {
     /// Short notes alone: up to 8 marks, each on one edge.
     Short,

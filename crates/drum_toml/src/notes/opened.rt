@@ -13,7 +13,7 @@ use drum_times::Edge;
 use toml::{Table, Value};
 
 /// What a call opens: the exit, where its edge is passed.
-#[derive(Clone, Copy, PartialEq, Eq)]
+#[derive(Clone, Copy)]
 pub struct Opened {
     pub edge: Edge,
     pub exit: Location,

@@ -10,7 +10,7 @@ use drum_core::{Op, Parity};
 use drum_times::Entry;
 
 /// What an entry says beside `before`, `after` and `parity`.
-#[derive(Clone, Copy, PartialEq, Eq)]
+#[derive(Clone, Copy)]
 pub enum Form {
     /// Nothing.
     Plain,

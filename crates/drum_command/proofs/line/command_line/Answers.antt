@@ -1,3 +1,5 @@
+use Rattle.std.proofs.Common.{arith}
+use Rattle.std.proofs.lemmas.Grind.{common_steps}
 use Rattle.std.proofs.Common.{◌≡◌, ◌∙◌, ◌<◌, ◌+◌, ℕ, Bool, ap, ap₂, sym, map, take, length, List, [], ◌∷◌, ◌++◌}
 use Rattle.std.proofs.Common.{slice_index_or}
 use Rattle.clap.specs.Words.{App, Shape, shape_of, with_subcommand}
@@ -37,3 +39,9 @@ loop-entry-preserved c =
     c.in_ok-line-2.ensures.shape c.in_ok-subcommand.ensures.local
     ∙ ap (λ (a : App). with_subcommand a (shape_of c.in_ok-subcommand.field-0)) c.loop-entry.invariant
     ∙ with_subcommand-program _ _ ∙ ap program more
+
+pub returns : goal.returns
+returns c = grind (arith, common_steps)
+
+pub returns-in_err-subcommand : goal.returns-in_err-subcommand
+returns-in_err-subcommand c = grind (arith, common_steps)

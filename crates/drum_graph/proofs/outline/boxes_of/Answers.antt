@@ -1,5 +1,7 @@
 -- Of boxes_of: each word is put into the boxes in its turn, and it is known whether it may follow
 -- another.
+use Rattle.std.proofs.Common.{arith}
+use Rattle.std.proofs.lemmas.Grind.{common_steps}
 use Rattle.std.proofs.Common.{◌≡◌, ℕ, Bool, List, [], ◌∷◌, ◌++◌, map, drop, get_or, ap, sym, ◌∙◌}
 use Rattle.std.specs.Prelude.{fold, if◌then◌else◌}
 use Rattle.std.specs.Vec.Iter.{into_iter_items}
@@ -42,3 +44,9 @@ loop-index-preserved c =
           (may_follow start words word) k left).1
           ∙ ap (λ (n : ℕ). drop n follows) (sym steps.2);
     }
+
+pub index-requires : goal.index-requires
+index-requires c = grind (arith, common_steps)
+
+pub returns : goal.returns
+returns c = grind (arith, common_steps)

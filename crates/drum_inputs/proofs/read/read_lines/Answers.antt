@@ -1,3 +1,5 @@
+use Rattle.std.proofs.Common.{arith}
+use Rattle.std.proofs.lemmas.Grind.{common_steps}
 use Rattle.drum_inputs.proofs.Progress.{one_more}
 use Rattle.drum_inputs.proofs.read.read_lines.Goals as goal
 
@@ -10,3 +12,9 @@ loop-line-preserved c =
           one_more c.args.text.now c.loop-line.line-iterator.rest.now c.next.new.self.rest.now c.loop-line.stating
           c.take.new.self c.loop-line.number c.in-Some.line.now next.0 p c.in-Some.ensures.steps next.1 next.2;
     }
+
+pub loop-line-init : goal.loop-line-init
+loop-line-init c = grind (arith, common_steps)
+
+pub overflow_add-number : goal.overflow_add-number
+overflow_add-number c = grind (arith, common_steps)

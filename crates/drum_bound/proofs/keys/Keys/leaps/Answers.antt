@@ -2,6 +2,7 @@
 -- more location stand at the index of that location.
 use Rattle.std.proofs.Common.{◌≡◌, ◌<◌, ℕ, List, [], ◌∷◌, ◌++◌, length, Option, Some, Vec, Global, refl, ap, sym, ◌∙◌}
 use Rattle.std.proofs.Common.{subst, inl, inr, arith}
+use Rattle.std.proofs.lemmas.Grind.{common_steps}
 use Rattle.std.specs.Prelude.{slice_get, IfSome}
 use Rattle.std.specs.Option.{option_map}
 use Rattle.std.proofs.lemmas.Bool.{cases_lt}
@@ -84,3 +85,6 @@ loop-node-preserved c =
         | in-None w ↦ omega (arith, w.room-is, c.loop-node.invariant.room)
       ];
     }
+
+pub returns : goal.returns
+returns c = grind (arith, common_steps)

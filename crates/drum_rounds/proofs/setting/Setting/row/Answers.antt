@@ -1,8 +1,9 @@
+use Rattle.std.proofs.Common.{arith}
 use Rattle.std.proofs.Common.{◌≡◌, ℕ, ◌+◌, List, ◌∷◌, ◌++◌, Some, get_or, take, sym, ap, ◌∙◌, subst, []}
 use Rattle.std.specs.Prelude.{flat_map, length, slice_get}
 use Rattle.std.proofs.lemmas.Bool.{ltb-true}
 use Rattle.std.proofs.lemmas.Option.{slice_get-get_or}
-use Rattle.std.proofs.lemmas.Grind.{flat_map-append}
+use Rattle.std.proofs.lemmas.Grind.{flat_map-append, common_steps}
 use Rattle.std.proofs.lemmas.List.{append-nil, take_more}
 use Rattle.drum_flow.specs.SettingOf.{setting}
 use Rattle.drum_walks.specs.Pieces.{spelled_at, PlacedHop}
@@ -34,3 +35,6 @@ loop-number-preserved c before are =
     (append-nil (spelled_at before number))
     ) in
     subst (λ (hs : List PlacedHop). ComeTo g hs (span_of c.in-Some-2.longer)) more both
+
+pub returns : goal.returns
+returns c = grind (arith, common_steps)

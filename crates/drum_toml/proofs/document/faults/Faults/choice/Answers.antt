@@ -1,4 +1,5 @@
-use Rattle.std.proofs.Common.{sym}
+use Rattle.std.proofs.Common.{sym, arith}
+use Rattle.std.proofs.lemmas.Grind.{common_steps}
 use Rattle.toml.specs.View.{view, table_view}
 use Rattle.drum_toml.proofs.Added.{chosen_is_right}
 use Rattle.drum_toml.proofs.Adding.{adds_same, adds_none}
@@ -11,3 +12,6 @@ returns-in_default-choice g c =
     c.args.choices.now (view c.in-Some.value.now) c.in_default-choice.field-0 c.in-Some.ensures
     c.in_default-choice.ensures.found))
     (adds_none _)
+
+pub returns-in_default : goal.returns-in_default
+returns-in_default g c = grind (arith, common_steps)

@@ -1,5 +1,6 @@
 use Rattle.std.proofs.Common.{rules, ◌≡◌, ◌<◌, ◌∙◌, Bool, false, cond, List, [], ◌∷◌, ap, get_or, length, replicate}
 use Rattle.std.proofs.Common.{arith}
+use Rattle.std.proofs.lemmas.Grind.{common_steps}
 use Rattle.std.proofs.lemmas.List.{get_or_default, get_or-replicate}
 use Rattle.drum_toml.specs.Document.{two_lists}
 use Rattle.drum_toml.proofs.Adding.{begun, one_step, adds_same}
@@ -38,3 +39,6 @@ loop-place-preserved c =
           (again ∙ c.loop-place.invariant.flags place.number below))
           c.in_ok-second_place.ensures);
     }
+
+pub returns : goal.returns
+returns c = grind (arith, common_steps)

@@ -1,5 +1,6 @@
 -- A mark without a fault is the one that the table says.
 use Rattle.std.proofs.Common.{◌≡◌, ℕ, ◌+◌, ◌-◌, Bool, List, ◌∷◌, ◌∙◌, subst, sym, arith, []}
+use Rattle.std.proofs.lemmas.Grind.{common_steps}
 use Rattle.std.specs.Prelude.{codes}
 use Rattle.toml.specs.View.{table_view}
 use Rattle.drum_times.specs.EdgeOf.{edge_of}
@@ -55,3 +56,9 @@ returns c =
       name = subst (said.HasName (said.names_in document) c.args.place fields)
           (sym (c.in_ok-name.ensures ∙ name_of _ c.args.place fields mark.0.name mark.1.name)) mark.1.name;
     }
+
+pub overflow_cast-result : goal.overflow_cast-result
+overflow_cast-result c = grind (arith, common_steps)
+
+pub read_mark_edges-requires-clause-wanted : goal.read_mark_edges-requires-clause-wanted
+read_mark_edges-requires-clause-wanted c = grind (arith, common_steps)

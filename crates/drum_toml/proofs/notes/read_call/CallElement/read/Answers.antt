@@ -1,5 +1,6 @@
 -- A call without a fault is the one that the table says: it has the same locations.
-use Rattle.std.proofs.Common.{◌≡◌, Option, Some, ap, sym, ◌∙◌, take}
+use Rattle.std.proofs.Common.{◌≡◌, Option, Some, ap, sym, ◌∙◌, take, arith}
+use Rattle.std.proofs.lemmas.Grind.{common_steps}
 use Rattle.toml.specs.View.{table_view}
 use Rattle.drum_times.specs.declared.notes.call.Call.{Call}
 use Rattle.drum_toml.specs.Calls.{Opening, is_opened, opening_of, openings_in}
@@ -28,3 +29,15 @@ returns c =
       back = c.location-4.ensures;
       new = ap (is_opened (take c.args._place (openings_in document))) same ∙ said.1.new;
     }
+
+pub location-requires : goal.location-requires
+location-requires c = grind (arith, common_steps)
+
+pub location-requires-2 : goal.location-requires-2
+location-requires-2 c = grind (arith, common_steps)
+
+pub location-requires-3 : goal.location-requires-3
+location-requires-3 c = grind (arith, common_steps)
+
+pub location-requires-4 : goal.location-requires-4
+location-requires-4 c = grind (arith, common_steps)

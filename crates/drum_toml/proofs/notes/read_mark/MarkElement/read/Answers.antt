@@ -1,5 +1,6 @@
 -- A mark without a fault is the one that the table says: its numbers are those at the keys.
 use Rattle.std.proofs.Common.{arith, refl}
+use Rattle.std.proofs.lemmas.Grind.{common_steps}
 use Rattle.std.specs.Prelude.{codes}
 use Rattle.toml.specs.View.{table_view}
 use Rattle.drum_toml.proofs.NotesFaultless.{inside_same, mark_said}
@@ -26,3 +27,12 @@ returns c =
       inside = inside_same c.args._place fields said.0.inside _ _ c.number-2.ensures c.checked_sub.ensures said.1.inside;
       name = refl;
     }
+
+pub location-requires : goal.location-requires
+location-requires c = grind (arith, common_steps)
+
+pub location-requires-2 : goal.location-requires-2
+location-requires-2 c = grind (arith, common_steps)
+
+pub overflow_cast-result : goal.overflow_cast-result
+overflow_cast-result c = grind (arith, common_steps)
