@@ -1,4 +1,5 @@
-use Rattle.std.proofs.Common.{inr}
+use Rattle.std.proofs.Common.{inr, arith}
+use Rattle.std.proofs.lemmas.Grind.{common_steps}
 use Rattle.std.proofs.lemmas.Result.{err_from_is_err_and}
 use Rattle.drum_tool.proofs.checking.check.Goals as goal
 
@@ -18,3 +19,6 @@ returns-clause-checked c = (
   c.in_ok-findings.ensures.findings,
   c.in_ok-findings.ensures.long,
 )
+
+pub sound_documents-requires : goal.sound_documents-requires
+sound_documents-requires c = grind (arith, common_steps)
