@@ -38,9 +38,11 @@ class Crates:
 
     def files(self, crate, parts=("src", "specs", "proofs")):
         """The files of a crate that the checker reads, in order."""
+        found = []
         for part in parts:
             for folder, _, names in os.walk(os.path.join(self.folder(crate), part)):
-                yield from sorted(os.path.join(folder, name) for name in names)
+                found += [os.path.join(folder, name) for name in names]
+        return sorted(found)
 
 
 def kit():
