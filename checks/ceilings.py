@@ -200,7 +200,7 @@ class Rounds:
 def pay_for_rounds(prices, files):
     """Whether prices pay for all rounds of all marks, where the model can go through them."""
     walks = TextWalks(files)
-    if walks.programmed != "stop" or walks.size() > FEW_ROUNDS:
+    if walks.size() > FEW_ROUNDS:
         return True
     rounds = Rounds(walks)
     return all(rounds.are_paid(mark, prices) for mark in range(len(prices)))

@@ -229,14 +229,23 @@ def table(walks):
     latest = Latest(walks, Uncounted())
     latest.lines()
     first = (walks.start + 1) % 50
+    arrivals = latest.arrivals.items()
+    return table_lines(
+        walks, {(place, counts): clock - first for (place, _, counts), (clock, _) in arrivals}
+    )
+
+
+def table_lines(walks, times_used):
+    """The lines of a table, of the most word times used at each location, by the counts."""
+    first = (walks.start + 1) % 50
     rows = [
-        (place, numbered(walks, counts), counts, arrived)
-        for (place, _, counts), (arrived, _) in latest.arrivals.items()
+        (place, numbered(walks, counts), counts, used)
+        for (place, counts), used in times_used.items()
     ]
     return [
         "%04d angle %d counts%s time %d"
-        % (place, arrived % 50, "".join(" %d" % count for count in counts), arrived - first)
-        for place, _, counts, arrived in sorted(rows, key=lambda row: row[:2])
+        % (place, (first + used) % 50, "".join(" %d" % count for count in counts), used)
+        for place, _, counts, used in sorted(rows)
     ]
 
 

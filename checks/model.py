@@ -300,8 +300,7 @@ def machine_of(deck, times, inputs):
 
 
 class Walks:
-    """The walks of a deck with its notes, of a text and a document. It knows them all under the
-    programmed switch at STOP alone."""
+    """The walks of a deck with its notes, of a text and a document."""
 
     def __init__(self, deck, times, notes):
         self.words, self.start = deck_of(deck)
@@ -333,7 +332,9 @@ class Walks:
         """Where an instruction may go on: a location, `early` or `late`."""
         if not suits(op, d):
             return {"early"}
-        ways = {"early", i} if op == 70 else {"late"} if op == 1 else {i}
+        ways = {"early", i} if op == 70 else {i}
+        if op == 1:
+            ways = {"stop": {"late"}, "run": {i}, "any": {"late", i}}[self.programmed]
         if op in (44, 45, 46, 47) or op >= 90 or op == 70 and self.has_load_cards:
             ways.add(d)
         if op >= 90 or op in MAY_STOP_LATE:
@@ -383,7 +384,6 @@ class Walks:
     def longest(self):
         """The most word times of all walks from all start angles: through all instructions, units,
         waits and angles."""
-        assert self.programmed == "stop"
         sys.setrecursionlimit(1_000_000)
 
         @functools.lru_cache(maxsize=None)

@@ -28,9 +28,8 @@ class TextWalks(Walks):
         super().__init__(deck, entries_of(files["times"]), notes)
 
     def is_small(self):
-        """Whether the model can go through all walks, which it knows under one switch alone."""
-        is_small = self.programmed == "stop" and self.size() <= FEW
-        return is_small and (not self.calls or len(Flow(self.files).nodes) <= FEW)
+        """Whether the model can go through all walks."""
+        return self.size() <= FEW and (not self.calls or len(Flow(self.files).nodes) <= FEW)
 
     def hops(self, op, d, i):
         """How many hops an instruction has: where both its ways lead to one location, two."""
@@ -71,10 +70,8 @@ def sized(text, files):
     all_hops = sum(walks.hops(*one) for place in order for one in walks.instructions(place))
     all_counts = math.prod(mark.most + 1 for mark in walks.marks)
     is_whole = not walks.is_small() or keys == len(table(walks))
-    # The model's ways are those under the switch at STOP.
-    are_all = walks.programmed != "stop" or hops == all_hops
     is_right = (words, counts) == (len(order), all_counts) and 1 <= keys <= words * counts
-    return True if is_right and are_all and is_whole else None
+    return True if is_right and hops == all_hops and is_whole else None
 
 
 class Drawn(Flow):

@@ -2,9 +2,31 @@
 
 /// The topics, in the order in which they are told.
 pub const TOPICS: &[&str] = &[
-    "deck", "times", "notes", "long", "calls", "numbers", "flow", "check", "analysis", "report",
-    "walk", "waits", "table", "graph", "draw", "ceiling", "replay", "inputs", "trace", "words",
-    "files", "joined", "lengths", "examples",
+    "deck",
+    "times",
+    "notes",
+    "long",
+    "calls",
+    "numbers",
+    "flow",
+    "check",
+    "analysis",
+    "report",
+    "walk",
+    "waits",
+    "table",
+    "graph",
+    "draw",
+    "ceiling",
+    "replay",
+    "inputs",
+    "trace",
+    "operations",
+    "words",
+    "files",
+    "joined",
+    "lengths",
+    "examples",
 ];
 
 /// The folder of the topics' files.

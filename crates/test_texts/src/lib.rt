@@ -98,9 +98,6 @@ exit = 210\nback = 120\n\
 pub const BOTH_ROADS: &str =
     "[[mark]]\nfrom = 210\nto = 110\nmost = 1\n[[mark]]\nfrom = 210\nto = 120\nmost = 1\n";
 
-/// Notes of a programmed switch at either, and no load cards.
-pub const EITHER: &str = "programmed = \"any\"\nload_cards = \"none\"\n";
-
 /// A deck that stores the distributor over its own stop.
 pub const STORES: &str = "0100 +2401060106\n0106 +0100000106\nSTART 0100\n";
 
