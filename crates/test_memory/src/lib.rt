@@ -2,9 +2,8 @@
 //!
 //! Calls that take memory answer that there is none, or what they always answer: `calls` is a table
 //! of them, and `watched` tries each in a `window`, where memory may be refused. `subjects` are the
-//! decks, and an `answer` is what a call answered. Calls that take none make no request: `spared`
-//! has these, by what they are of: `spared/graphs`, `spared/machines` and `spared/reports`. `page`
-//! has room for a small text, with no memory.
+//! decks, and an `answer` is what a call answered. `spared` has calls that make no request: reports
+//! and walks (`spared/reports`). `page` has room for a small text, with no memory.
 #![tactic(auto)]
 
 #[cfg(test)]
