@@ -1,4 +1,4 @@
-"""The small decks of checks/walks, each with its notes."""
+"""The small decks of checks/walks, each with the notes under which it is tried."""
 
 
 def notes(programmed="stop", load_cards="none", marks=(), lists=None):
