@@ -10,8 +10,6 @@ use drum_tool::Source;
 #[derive(Drop)]
 pub(crate) struct Shelf<'a> {
     files: &'a [(&'a str, Tap<'a>)],
-    /// How many names were sought.
-    pub(crate) sought: u64,
     /// How often the text was read that was read most.
     pub(crate) calls: u64,
     /// How many bytes the text gave that gave most.
@@ -27,7 +25,6 @@ impl<'a> Shelf<'a> {
     {
         Shelf {
             files,
-            sought: 0,
             calls: 0,
             bytes: 0,
             failures: 0,
@@ -45,7 +42,6 @@ impl<'a> Source for Shelf<'a> {
     ghost asked = { λ _. None };
 
     fn fetch(&mut self, name: &str) -> Option<Reading<Tap<'a>>> {
-        self.sought = self.sought.saturating_add(1);
         for (known, text) in self.files {
             if *known == name {
                 return Some(Reading::new(*text));
