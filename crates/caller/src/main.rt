@@ -1,6 +1,6 @@
 //! A program that calls the analysis as a library: it prints the bound of a deck, and of each visit
-//! of the worst walk where it begins and how many word times it takes. `memory_files` is another way
-//! in: the whole program over files in memory, with what it promises of their bound.
+//! of the worst walk where it begins and how many word times it takes. `memory_files` is another
+//! way in: the whole program over files in memory, with what it promises of their bound.
 #![tactic(auto)]
 
 mod memory_files;
