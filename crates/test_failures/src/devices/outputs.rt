@@ -1,11 +1,10 @@
-//! Outputs that fail after any byte, and take few bytes a call or none, for each text that goes
-//! out.
+//! Outputs that fail after any byte, and take few bytes a call or none, for the texts of each
+//! subject.
 
-use crate::devices::running::{AMPLE, Ran, run_over};
+use crate::devices::running::{Ran, run_over};
 use crate::devices::subjects::{SUBJECTS, shelf_of};
 use crate::devices::{Full, Tap};
 use crate::shelf::Shelf;
-use crate::texts::{NOTES, TWO_WORDS};
 use drum_devices::{Output, Writing};
 use drum_tool::Status;
 use std::process::Abort;
@@ -98,38 +97,6 @@ fn of_subjects(rt: HostRuntime) -> Result<(), Fail> {
             &files,
             whole,
         )?;
-    }
-    Ok(())
-}
-
-/// What help, refused words and a picture say is known from a run with room; a name that can't be
-/// opened has its line.
-#[test]
-fn of_other_texts(rt: HostRuntime) -> Result<(), Fail> {
-    let files = shelf_of((TWO_WORDS, NOTES, ""));
-    for (words, status) in [
-        (["--help"].as_slice(), Status::Done),
-        (["replay", "-h"].as_slice(), Status::Done),
-        (["bound", "deck"].as_slice(), Status::Usage),
-        (
-            ["bound", "deck", "none", "notes"].as_slice(),
-            Status::Failed,
-        ),
-    ] {
-        let ample = (AMPLE, AMPLE);
-        let ran = run_over(
-            rt.alloc(),
-            words,
-            &mut Shelf::of(&files),
-            Tap::of(b""),
-            ample,
-        );
-        assert_eq!(rt; ran.status, status, "{words:?}");
-        let (out, err) = (
-            ran.out.writer.taken.as_slice(),
-            ran.err.writer.taken.as_slice(),
-        );
-        sends(&rt, words, &files, Whole { status, out, err })?;
     }
     Ok(())
 }
