@@ -1,6 +1,6 @@
 //! Devices that give or take few bytes, fail or never end.
 //!
-//! `taps` are the readers and writers. `subjects` has the commands whose texts are known, and
+//! `taps` are the readers. `subjects` has the commands whose texts are known, and
 //! `running` runs one. The tests are of `files`, of the joined form on the `input`, of both
 //! `outputs`, and of `reports` that a caller has written.
 
@@ -12,4 +12,4 @@ mod running;
 mod subjects;
 mod taps;
 
-pub(crate) use taps::{Full, Tap};
+pub(crate) use taps::Tap;

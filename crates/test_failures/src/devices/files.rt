@@ -74,7 +74,7 @@ fn replayed(alloc: Global, place: usize, text: Tap<'_>) -> (Ran, u64, u128, u64)
         file.1 = text;
     }
     let mut shelf = Shelf::of(&files);
-    let ran = run_over(alloc, &WORDS, &mut shelf, Tap::of(b""), (AMPLE, AMPLE));
+    let ran = run_over(alloc, &WORDS, &mut shelf, Tap::of(b""), AMPLE);
     (ran, shelf.calls, shelf.bytes, shelf.failures)
 }
 

@@ -16,7 +16,7 @@ fn joined(alloc: Global) -> Result<String, AllocError> {
 
 /// What the program says with no words.
 fn ran(alloc: Global, input: Tap<'_>) -> Ran {
-    run_over(alloc, &[], &mut Shelf::of(&[]), input, (AMPLE, AMPLE))
+    run_over(alloc, &[], &mut Shelf::of(&[]), input, AMPLE)
 }
 
 #[test]

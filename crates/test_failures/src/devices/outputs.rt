@@ -1,9 +1,10 @@
 //! Outputs that fail after any byte, and take few bytes a call or none, for the texts of each
 //! subject.
 
+use crate::devices::Tap;
 use crate::devices::running::{Ran, run_over};
 use crate::devices::subjects::{SUBJECTS, shelf_of};
-use crate::devices::{Full, Tap};
+use crate::page::Page;
 use crate::shelf::Shelf;
 use drum_devices::{Output, Writing};
 use drum_tool::Status;
@@ -13,14 +14,14 @@ use std::test::Fail;
 /// That an output got a prefix of this text: what it has the room for.
 fn got(
     rt: &impl Abort,
-    output: &Writing<Full>,
+    output: &Writing<Page>,
     text: &[u8],
     (room, most): (usize, usize),
 ) -> Result<(), Fail> {
     let sent = if most == 0 { 0 } else { room.min(text.len()) };
     let prefix = text.get(..sent).ok_or("a prefix")?;
     assert_eq!(rt;
-        output.writer.taken.as_slice(),
+        output.writer.text(),
         prefix,
         "with {room} bytes, {most} a call"
     );

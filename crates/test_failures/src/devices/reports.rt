@@ -1,7 +1,7 @@
 //! Reports that a caller has written: how many bytes have gone out where a write fails.
 
-use crate::devices::Full;
 use crate::devices::subjects::REPORT;
+use crate::page::Page;
 use crate::texts::{NOTES, TIMES, TWO_WORDS};
 use drum_bound::{Analysis, analyse};
 use drum_deck::{Deck, read_deck};
@@ -14,20 +14,17 @@ use std::test::Fail;
 /// That a report to an output with this room, which takes as many bytes a call at most, tells how
 /// many bytes of its 84 went out.
 fn sends(
-    rt: &(impl AllocGlobal + Abort),
+    rt: &impl Abort,
     analysis: &Analysis,
     (deck, notes): (&Deck, &Notes),
     (room, most): (usize, usize),
 ) {
     let sent = if most == 0 { 0 } else { room };
     let whole = sent == 84;
-    let mut out = Writing::new(Full::new(rt.alloc(), room, most));
+    let mut out = Writing::new(Page::with(room, most));
     let fault = report(analysis, deck, notes, &mut out).err();
     assert_eq!(rt; fault, (!whole).then_some(WriteFault { sent }));
-    assert_eq!(rt;
-        Some(out.writer.taken.as_slice()),
-        REPORT.as_bytes().get(..sent)
-    );
+    assert_eq!(rt; Some(out.writer.text()), REPORT.as_bytes().get(..sent));
     assert_eq!(rt; out.failures(), u64::from(!whole));
 }
 

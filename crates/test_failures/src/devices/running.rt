@@ -2,21 +2,22 @@
 
 ghost use Rattle.std.specs.Prelude.{◌^◌, ◌≤◌};
 
-use crate::devices::{Full, Tap};
+use crate::devices::Tap;
+use crate::page::Page;
 use crate::shelf::Shelf;
 use drum_devices::{Input, Reading, Writing};
 use drum_tool::{Status, run};
 use std::alloc::Global;
 
-/// Room for each text that is written.
-pub(crate) const AMPLE: usize = 8192;
+/// Room for each text that is written, and all of it at once.
+pub(crate) const AMPLE: (usize, usize) = (usize::MAX, usize::MAX);
 
 /// What a run of the program gave.
 #[derive(Drop)]
 pub(crate) struct Ran {
     pub(crate) status: Status,
-    pub(crate) out: Writing<Full>,
-    pub(crate) err: Writing<Full>,
+    pub(crate) out: Writing<Page>,
+    pub(crate) err: Writing<Page>,
     /// Of the standard input.
     pub(crate) calls: u64,
     pub(crate) failures: u64,
@@ -25,9 +26,7 @@ pub(crate) struct Ran {
 impl Ran {
     /// Whether it ended so, with these texts on standard output and on standard error.
     pub(crate) fn is(&self, status: Status, out: &str, err: &str) -> bool {
-        self.status == status
-            && self.out.writer.taken.as_slice() == out.as_bytes()
-            && self.err.writer.taken.as_slice() == err.as_bytes()
+        self.status == status && self.out.writer.is(out) && self.err.writer.is(err)
     }
 }
 
@@ -44,8 +43,8 @@ pub(crate) fn run_over(
 {
     let (room, most) = limits;
     let mut input = Reading::new(input);
-    let mut out = Writing::new(Full::new(alloc, room, most));
-    let mut err = Writing::new(Full::new(alloc, room, most));
+    let mut out = Writing::new(Page::with(room, most));
+    let mut err = Writing::new(Page::with(room, most));
     let status = run(alloc, words, shelf, &mut input, &mut out, &mut err);
     Ran {
         status,

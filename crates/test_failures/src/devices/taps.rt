@@ -1,8 +1,7 @@
-//! Readers that give few bytes a call, fail or never end, and writers that take few bytes or fail.
+//! Readers that give few bytes a call, fail or never end.
 
-use std::alloc::Global;
 use std::io;
-use std::io::{ErrorKind, Read, Write};
+use std::io::{ErrorKind, Read};
 
 /// A reader of some bytes and of stars behind them. It gives `most` bytes a call at most, and fails
 /// once it has served `calls` calls.
@@ -74,39 +73,5 @@ impl Read for Tap<'_> {
         }
         self.stars -= count;
         Ok(count)
-    }
-}
-
-/// A writer that takes `most` bytes a call at most, and fails where it has no room.
-#[derive(Drop)]
-pub(crate) struct Full {
-    pub(crate) taken: Vec<u8>,
-    pub(crate) room: usize,
-    pub(crate) most: usize,
-}
-
-impl Full {
-    /// A writer with room for `room` bytes, which takes `most` bytes a call at most.
-    pub(crate) fn new(alloc: Global, room: usize, most: usize) -> Full {
-        let taken = Vec::new(alloc);
-        Full { taken, room, most }
-    }
-}
-
-impl Write for Full {
-    fn write(&mut self, buf: &[u8]) -> io::Result<usize> {
-        if self.room == 0 {
-            return Err(io::Error::from(ErrorKind::StorageFull));
-        }
-        let count = buf.len().min(self.most).min(self.room);
-        if self.taken.extend_from_slice(&buf[..count]).is_err() {
-            return Err(io::Error::from(ErrorKind::OutOfMemory));
-        }
-        self.room -= count;
-        Ok(count)
-    }
-
-    fn flush(&mut self) -> io::Result<()> {
-        Ok(())
     }
 }

@@ -1,6 +1,6 @@
 //! What a call answered.
 
-use crate::memory::page::Page;
+use crate::page::Page;
 use drum_bound::Refusal;
 use drum_deck::DeckFault;
 use drum_devices::WholeError;

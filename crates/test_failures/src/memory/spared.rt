@@ -4,9 +4,9 @@
 //! memory there is; here are those of which a document says that they take none: whole reports and
 //! walks.
 
-use crate::memory::page::Page;
 use crate::memory::subjects::{SUBJECTS, Subject};
 use crate::memory::window::{close_spared, open};
+use crate::page::Page;
 use drum_bound::{Analysis, analyse};
 use drum_devices::Writing;
 use drum_listing::put_walk;
