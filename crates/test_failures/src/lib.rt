@@ -1,9 +1,10 @@
 //! Tests of devices and of memory that fail: what no command shows.
 //!
-//! `devices` has readers and writers that give or take few bytes, fail or never end, and tests of
-//! the program over them. `memory` has tests of calls that take memory, under each of which
-//! `checks/refuse-memory` refuses its requests in turn. `shelf` is a source of files over devices,
-//! `page` a writer that takes no memory, and `texts` has decks, a timing table and notes.
+//! `devices` has readers that give few bytes, fail or never end, and tests of the program over them
+//! and over outputs that take few bytes or fail. `memory` has tests of calls that take memory,
+//! under each of which `checks/refuse-memory` refuses its requests in turn. Both share `shelf`, a
+//! source of files over such readers, `page`, a writer that takes no memory and no more than it is
+//! told, and `texts`: decks, a timing table and notes.
 #![tactic(auto)]
 
 #[cfg(test)]
