@@ -3,7 +3,8 @@ ghost use Rattle.std.specs.Prelude.{◌≤◌};
 use std::io;
 use std::io::{ErrorKind, Write};
 
-/// How many bytes a page holds. No text that these tests have written is longer.
+/// How many bytes a page holds. Past them a write fails, as those of a picture and of the longest
+/// help do.
 const LENGTH: usize = 2048;
 
 /// A writer that takes no memory. It takes `most` bytes a call at most, and fails where it has no
@@ -19,7 +20,7 @@ pub(crate) struct Page {
 }
 
 impl Page {
-    /// An empty page, for any text of these tests.
+    /// An empty page, which takes all that it holds in one call.
     pub(crate) fn new() -> Page {
         Page::with(LENGTH, usize::MAX)
     }
