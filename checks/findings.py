@@ -21,7 +21,8 @@ DATA = {10, 11, *range(14, 20), *range(20, 25), 60, 61, *range(64, 70)}
 # several, and what stands before marks that make long notes.
 RUN = " # without this line, most is of the whole run"
 SEVERAL = "# inside several ways back of one loop: most is of the whole run"
-LONG = "# long notes (64 marks at most): for check, graph, ceiling and trace only"
+LONG = "# long notes (64 marks at most): "
+LONG += "not for bound, report, table, size, replay or draw with inputs"
 
 
 class Flow:
@@ -135,15 +136,25 @@ class Flow:
                 yield "unused call %04d %04d" % call.edge
 
     def idle(self):
-        """Loaded words that are neither executed nor named as data by an executed instruction."""
+        """Loaded words that are neither executed nor named as data by an executed instruction: three
+        and more that follow one another at once."""
         named = {
             word
             for place in self.order
             for op, d, _ in set(self.instructions(place))
             for word in names(op, d)
         }
+        stretches = []
         for place in sorted(set(self.words) - set(self.order) - named):
-            yield "idle %04d" % place
+            if stretches and stretches[-1][-1] == place - 1:
+                stretches[-1].append(place)
+            else:
+                stretches.append([place])
+        for places in stretches:
+            if len(places) > 2:
+                yield "idle %04d to %04d" % (places[0], places[-1])
+            else:
+                yield from ("idle %04d" % place for place in places)
 
     def all_links(self):
         return [(node, onto) for node in self.links for onto in self.links[node]]

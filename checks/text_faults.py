@@ -33,6 +33,21 @@ def word_slip_of(line):
         return "a word has no sign"
     if begins and words > 7:
         return "the line has more than 7 words"
+    return form_slip_of(line, pieces)
+
+
+def form_slip_of(line, pieces):
+    """What is to be told of the form of a line with these pieces."""
+    if re.match(rb"[0-9]{4} [-+]?[0-9]{2} [0-9]{4} [0-9]{4}", line):
+        return "the instruction is in parts"
+    if any(re.fullmatch(rb"[0-9]{10}[-+]", piece) for piece in pieces):
+        return "a sign stands behind its word"
+    if re.match(rb"[0-9]{4}:", line):
+        return "a colon stands behind the location"
+    if line.startswith((b"CARD ", b"LOAD ")) and len(pieces) != 11:
+        return "a card has ten words"
+    if re.fullmatch(rb"ANGLE [0-9]", line):
+        return "the angle has two digits"
     return "the line has small letters" if re.search(rb"[a-z]", line) else None
 
 

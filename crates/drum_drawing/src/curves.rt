@@ -1,6 +1,6 @@
 //! The curves from word to word.
 
-use crate::beside::{beside_top, is_beside};
+use crate::beside::{beside_end, is_beside};
 use crate::ink::Ink;
 use crate::point::Point;
 use crate::rings::{RIM, Ring, ring_of};
@@ -15,7 +15,7 @@ const MOST_ARROWS: usize = 150;
 /// Where the curve of an edge ends at a word.
 fn end_at(rings: &[Ring], number: u16) -> Option<Point> {
     if is_beside(number) {
-        return Some(beside_top(number));
+        return Some(beside_end(number));
     }
     let ring = ring_of(rings, number)?;
     Some(Point::at(number % 50, ring.inner))

@@ -39,6 +39,16 @@ pub fn draw_rim(svg: &mut Svg) {
     }
 }
 
+/// Draws the heads, which stand still, where they are when the angle is 00, and an arrow the way the
+/// drum turns: the next angle comes by next.
+pub fn draw_heads(svg: &mut Svg) {
+    draw!(svg: "<path " (Ink::Faint) " d='M0 -2412L-55 -2492H55Z'/>");
+    draw!(svg: "<text " (Ink::Faint) " font-size='105' x='-290' y='-2522'>heads</text>");
+    draw!(svg: "<path " (Ink::Hop) " stroke-width='12' d='M1057 -2266A2500 2500 0 0 0 391 -2469'");
+    draw!(svg: " marker-end='url(#tip)'/>");
+    draw!(svg: "<text " (Ink::Faint) " font-size='105' x='1230' y='-2360'>turns</text>\n");
+}
+
 /// Draws the words of a ring.
 fn draw_ring_words(svg: &mut Svg, ring: Ring, tallies: &Tallies, most: u128, walk: Walk) {
     let band = ring.band;

@@ -111,11 +111,18 @@ fn draw_verdict(svg: &mut Svg, verdict: &Verdict) {
     draw!(svg: "</text>\n");
 }
 
-/// Writes how many milliseconds and revolutions a walk takes, at this height.
+/// Writes how many milliseconds and revolutions a walk takes, at this height; where it takes more
+/// than ten seconds, how many of these.
 fn draw_lengths(svg: &mut Svg, walk: Walk, base: u64) {
-    let (time, revolutions) = (walk.milliseconds(), walk.revolutions());
-    draw!(svg: "<text " (Ink::Faint) " x='29' y='" base "'>" time " milliseconds at 96 ");
-    draw!(svg: "microseconds a word time, " revolutions " revolutions of the drum</text>\n");
+    let (milliseconds, seconds) = (walk.milliseconds(), walk.seconds());
+    draw!(svg: "<text " (Ink::Faint) " x='29' y='" base "'>");
+    if milliseconds.count > 100_000 {
+        draw!(svg: seconds " seconds");
+    } else {
+        draw!(svg: milliseconds " milliseconds");
+    }
+    let revolutions = walk.revolutions();
+    draw!(svg: " at 96 microseconds a word time, " revolutions " revolutions of the drum</text>\n");
 }
 
 /// Draws the style, and what stands below the heading: the verdict on a run, and how long the walk
@@ -155,10 +162,10 @@ pub fn draw_drum_title(svg: &mut Svg, rings: &[Ring], edges: usize) {
     }
     draw!(svg: "</text>\n");
     if edges > MOST_EDGES {
-        draw!(svg: "<text " (Ink::Faint) " x='28' y='149'>");
-        draw!(svg: "The " MOST_EDGES " hops taken most of " edges "</text>\n");
+        draw!(svg: "<text " (Ink::Faint) " x='290' y='112'>");
+        draw!(svg: "the " MOST_EDGES " hops taken most of " edges "</text>\n");
     }
-    draw!(svg: "<g transform='translate(240 674)'>");
+    draw!(svg: "<g transform='translate(240 682)'>");
     for (x, shade) in [(0, 1), (11, 3), (22, 6)] {
         draw_square(svg, Ink::Shade(shade), x, 0);
     }

@@ -14,13 +14,18 @@ fn draw_extent(svg: &mut Svg, extent: Extent, walk: Walk) {
     match extent {
         Extent::All => draw!(svg: "all " all " revolutions"),
         Extent::First(shown) => draw!(svg: "first " shown " of " all " revolutions"),
-        Extent::Again(first, from) => {
-            draw!(svg: "first " first ", then from " from ", of " all " revolutions");
-        }
-        Extent::Some(shown) => {
+        Extent::From(_, shown) | Extent::Some(shown) => {
             let last = walk.last_revolution();
             draw!(svg: shown " of " last " revolutions");
         }
+    }
+}
+
+/// Writes below a title from which revolution on the walk is shown, where it isn't from the first.
+fn draw_from(svg: &mut Svg, extent: Extent, left: u64) {
+    if let Extent::From(from, _) = extent {
+        draw!(svg: "<text " (Ink::Faint) " x='" left "' y='112'>from revolution " from);
+        draw!(svg: " on, where most of the time goes</text>\n");
     }
 }
 
@@ -30,9 +35,14 @@ pub fn draw_revolutions_title(svg: &mut Svg, scene: &Scene, layout: Layout) {
     if scene.rows.hops.is_empty() {
         return draw!(svg: "<text " TITLE " x='" left "' y='112'>" name " has no hop</text>\n");
     }
-    draw!(svg: "<text " TITLE " x='" left "' y='112'>" name ": ");
+    let base = match scene.extent {
+        Extent::From(..) => 93u64,
+        _ => 112,
+    };
+    draw!(svg: "<text " TITLE " x='" left "' y='" base "'>" name ": ");
     draw_extent(svg, scene.extent, scene.walk);
     draw!(svg: "</text>\n");
+    draw_from(svg, scene.extent, left);
 }
 
 /// Draws the angles above the rows.

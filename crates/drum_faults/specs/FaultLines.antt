@@ -25,7 +25,8 @@ use Rattle.drum_faults.specs.declared.slip.Slip.{Slip}
 use Rattle.drum_faults.specs.declared.slip.Slip.TheVariants.{ByteOrderMark, Utf16, CarriageReturn}
 use Rattle.drum_faults.specs.declared.slip.Slip.TheVariants.{Empty, Tab, BlankAtEnd, CommentBehind}
 use Rattle.drum_faults.specs.declared.slip.Slip.TheVariants.{LetterO, LetterL, NoSign, ManyWords}
-use Rattle.drum_faults.specs.declared.slip.Slip.TheVariants.{SmallLetters}
+use Rattle.drum_faults.specs.declared.slip.Slip.TheVariants.{InParts, SignBehind, Colon}
+use Rattle.drum_faults.specs.declared.slip.Slip.TheVariants.{NotTenWords, OneDigit, SmallLetters}
 
 -- a text, and the name of the file that holds it
 pub record Named : Type 0 where
@@ -55,6 +56,11 @@ slip_said LetterO = codes "the line has a letter O for a zero\n"
 slip_said LetterL = codes "the line has a letter l for a one\n"
 slip_said NoSign = codes "a word has no sign\n"
 slip_said ManyWords = codes "the line has more than 7 words\n"
+slip_said InParts = codes "the instruction is in parts\n"
+slip_said SignBehind = codes "a sign stands behind its word\n"
+slip_said Colon = codes "a colon stands behind the location\n"
+slip_said NotTenWords = codes "a card has ten words\n"
+slip_said OneDigit = codes "the angle has two digits\n"
 slip_said SmallLetters = codes "the line has small letters\n"
 
 abbrev pub slip_text : List ℕ → Option ℕ → Option Slip → List ℕ

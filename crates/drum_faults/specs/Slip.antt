@@ -5,12 +5,25 @@ use Rattle.drum_faults.specs.declared.slip.Slip.{Slip}
 use Rattle.drum_faults.specs.declared.slip.Slip.TheVariants.{ByteOrderMark, Utf16, CarriageReturn}
 use Rattle.drum_faults.specs.declared.slip.Slip.TheVariants.{Empty, Tab, BlankAtEnd, CommentBehind}
 use Rattle.drum_faults.specs.declared.slip.Slip.TheVariants.{LetterO, LetterL, NoSign, ManyWords}
-use Rattle.drum_faults.specs.declared.slip.Slip.TheVariants.{SmallLetters}
+use Rattle.drum_faults.specs.declared.slip.Slip.TheVariants.{InParts, SignBehind, Colon}
+use Rattle.drum_faults.specs.declared.slip.Slip.TheVariants.{NotTenWords, OneDigit, SmallLetters}
 use Rattle.drum_faults.specs.SlipTests.{begins, ends, has, has_utf16, has_small_letter, pieces}
 use Rattle.drum_faults.specs.SlipTests.{has_beside_digit, is_unsigned, has_comment_behind}
-use Rattle.drum_faults.specs.SlipTests.{has_many_words}
+use Rattle.drum_faults.specs.SlipTests.{has_many_words, is_in_parts, has_sign_behind, has_colon}
+use Rattle.drum_faults.specs.SlipTests.{is_card_of_other_length, is_angle_of_one_digit}
 
--- what is told of the words of a line: the first of these that fits
+-- what is told of the form of a line: the first of these that fits
+abbrev pub slip_in_form : List ℕ → Option Slip
+slip_in_form line =
+    if is_in_parts line then Some InParts
+    else if has_sign_behind line then Some SignBehind
+    else if has_colon line then Some Colon
+    else if is_card_of_other_length line then Some NotTenWords
+    else if is_angle_of_one_digit line then Some OneDigit
+    else if has_small_letter line then Some SmallLetters
+    else None
+
+-- what is told of the words of a line: the first of these that fits, and else of its form
 abbrev pub slip_in_words : List ℕ → Option Slip
 slip_in_words line =
     if has_comment_behind line then Some CommentBehind
@@ -18,8 +31,7 @@ slip_in_words line =
     else if has_beside_digit 73 108 line then Some LetterL
     else if list_any is_unsigned (pieces line) then Some NoSign
     else if has_many_words line then Some ManyWords
-    else if has_small_letter line then Some SmallLetters
-    else None
+    else slip_in_form line
 
 -- what was done to a line: the first of these that fits, and else what is told of its words
 abbrev pub slip_in : List ℕ → Option Slip

@@ -1,6 +1,6 @@
 -- Tests of a line's bytes, which say what was done to it.
 use Rattle.std.specs.Prelude.{ℕ, Bool, false, not, ◌==◌, ◌&&◌, ◌||◌, nat_le, nat_lt, List, [], ◌∷◌}
-use Rattle.std.specs.Prelude.{length, drop, count_by}
+use Rattle.std.specs.Prelude.{length, drop, count_by, codes, if◌then◌else◌}
 use Rattle.std.specs.List.{list_all, list_any, slice_split, zip, starts_with, ends_with}
 
 -- it begins with these bytes
@@ -73,3 +73,45 @@ has_comment_behind line =
 -- It begins with a digit, and more than seven of its pieces are words.
 abbrev pub has_many_words : List ℕ → Bool
 has_many_words line = begins_location line && nat_lt 7 (count_by is_word (pieces line))
+
+-- whether a byte is what a form has there; `0` in a form stands for any digit
+abbrev pub is_of : ℕ → ℕ → Bool
+is_of mark byte = if mark == 48 then is_digit byte else byte == mark
+
+-- its first bytes have this form
+abbrev pub begins_as : List ℕ → List ℕ → Bool
+begins_as form bytes =
+    nat_le (length form) (length bytes)
+    && list_all (λ pair. is_of pair.0 pair.1) (zip form bytes)
+
+-- all its bytes have this form
+abbrev pub has_form : List ℕ → List ℕ → Bool
+has_form form bytes = (length bytes == length form) && begins_as form bytes
+
+-- a location, and behind it an operation, perhaps with a sign, a D and an I, with blanks between
+abbrev pub is_in_parts : List ℕ → Bool
+is_in_parts line =
+    begins_as (codes "0000 00 0000 0000") line || begins_as (codes "0000 +00 0000 0000") line
+    || begins_as (codes "0000 -00 0000 0000") line
+
+-- ten digits and a sign
+abbrev pub is_signed_behind : List ℕ → Bool
+is_signed_behind piece =
+    has_form (codes "0000000000+") piece || has_form (codes "0000000000-") piece
+
+abbrev pub has_sign_behind : List ℕ → Bool
+has_sign_behind line = list_any is_signed_behind (pieces line)
+
+-- a location and a colon
+abbrev pub has_colon : List ℕ → Bool
+has_colon line = begins_as (codes "0000:") line
+
+-- A card or a load card of inputs, with other than ten pieces behind its name.
+abbrev pub is_card_of_other_length : List ℕ → Bool
+is_card_of_other_length line =
+    (begins line (codes "CARD ") || begins line (codes "LOAD "))
+    && not (length (pieces line) == 11)
+
+-- an angle of inputs, of one digit
+abbrev pub is_angle_of_one_digit : List ℕ → Bool
+is_angle_of_one_digit line = has_form (codes "ANGLE 0") line

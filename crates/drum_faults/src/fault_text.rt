@@ -92,6 +92,11 @@ fn said(slip: Slip) -> &'static [u8]
         Slip::LetterL => b"the line has a letter l for a one\n",
         Slip::NoSign => b"a word has no sign\n",
         Slip::ManyWords => b"the line has more than 7 words\n",
+        Slip::InParts => b"the instruction is in parts\n",
+        Slip::SignBehind => b"a sign stands behind its word\n",
+        Slip::Colon => b"a colon stands behind the location\n",
+        Slip::NotTenWords => b"a card has ten words\n",
+        Slip::OneDigit => b"the angle has two digits\n",
         Slip::SmallLetters => b"the line has small letters\n",
     }
 }

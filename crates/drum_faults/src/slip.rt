@@ -1,5 +1,7 @@
 use crate::slip_tests::{
-    has_beside_digit, has_comment_behind, has_many_words, has_small_letter, has_unsigned, is_utf16,
+    has_beside_digit, has_colon, has_comment_behind, has_many_words, has_sign_behind,
+    has_small_letter, has_unsigned, is_angle_of_one_digit, is_card_of_other_length, is_in_parts,
+    is_utf16,
 };
 
 /// What was done to a line that is no line of a deck, or of inputs: by an editor, by a transfer, or
@@ -28,13 +30,23 @@ pub enum Slip {
     NoSign,
     /// A card has more than seven words.
     ManyWords,
+    /// Blanks part the instruction behind a location: operation, D and I stand apart.
+    InParts,
+    /// A word's sign stands behind its digits.
+    SignBehind,
+    /// A colon stands behind the location.
+    Colon,
+    /// A card of inputs has other than ten words.
+    NotTenWords,
+    /// The angle of inputs has one digit.
+    OneDigit,
     /// The line has letters from `a` to `z`.
     SmallLetters,
 }
 
 impl Slip {
     ghost use Rattle.std.specs.Prelude.{◌≡◌};
-    ghost use Rattle.drum_faults.specs.Slip.{slip_in, slip_in_words, slip_in_long};
+    ghost use Rattle.drum_faults.specs.Slip.{slip_in, slip_in_words, slip_in_form, slip_in_long};
 
     /// What was done to a line of these bytes, if anything that is known.
     pub fn of(line: &[u8]) -> Option<Slip>
@@ -71,6 +83,25 @@ impl Slip {
             Some(Slip::NoSign)
         } else if has_many_words(line) {
             Some(Slip::ManyWords)
+        } else {
+            Slip::of_form(line)
+        }
+    }
+
+    /// What is told of the form of a line, if anything that is known.
+    fn of_form(line: &[u8]) -> Option<Slip>
+        ensures { result ≡ slip_in_form line.now }
+    {
+        if is_in_parts(line) {
+            Some(Slip::InParts)
+        } else if has_sign_behind(line) {
+            Some(Slip::SignBehind)
+        } else if has_colon(line) {
+            Some(Slip::Colon)
+        } else if is_card_of_other_length(line) {
+            Some(Slip::NotTenWords)
+        } else if is_angle_of_one_digit(line) {
+            Some(Slip::OneDigit)
         } else if has_small_letter(line) {
             Some(Slip::SmallLetters)
         } else {

@@ -1,6 +1,6 @@
 //! Tests of a line's bytes, which say what was done to it.
 
-ghost use Rattle.std.specs.Prelude.{◌≡◌, count_by};
+ghost use Rattle.std.specs.Prelude.{◌≡◌, count_by, length};
 ghost use Rattle.std.specs.List.{list_all, list_any};
 ghost use Rattle.drum_faults.specs.SlipTests as sign;
 
@@ -130,4 +130,85 @@ pub fn has_many_words(line: &[u8]) -> bool
     ensures { result ≡ sign.has_many_words line.now }
 {
     begins_location(line) && word_count(line) > 7
+}
+
+/// Whether a byte is what a form has there: `0` in a form stands for any digit.
+fn is_of(mark: u8, byte: u8) -> bool
+    ensures { result ≡ sign.is_of mark byte }
+{
+    if mark == b'0' {
+        byte.is_ascii_digit()
+    } else {
+        byte == mark
+    }
+}
+
+/// Whether the first of these bytes have a form.
+fn begins_as(form: &[u8], bytes: &[u8]) -> bool
+    ensures { result ≡ sign.begins_as form.now bytes.now }
+{
+    form.len() <= bytes.len()
+        && form
+            .iter()
+            .zip(bytes.iter())
+            .all(|(mark, byte)| is_of(*mark, *byte))
+}
+
+/// Whether all of these bytes have a form.
+fn has_form(form: &[u8], bytes: &[u8]) -> bool
+    ensures { result ≡ sign.has_form form.now bytes.now }
+{
+    bytes.len() == form.len() && begins_as(form, bytes)
+}
+
+/// Whether a line has an instruction in parts behind a location.
+pub fn is_in_parts(line: &[u8]) -> bool
+    ensures { result ≡ sign.is_in_parts line.now }
+{
+    begins_as(b"0000 00 0000 0000", line)
+        || begins_as(b"0000 +00 0000 0000", line)
+        || begins_as(b"0000 -00 0000 0000", line)
+}
+
+/// Whether a piece of a line is ten digits and a sign.
+fn is_signed_behind(piece: &[u8]) -> bool
+    ensures { result ≡ sign.is_signed_behind piece.now }
+{
+    has_form(b"0000000000+", piece) || has_form(b"0000000000-", piece)
+}
+
+/// Whether a line has a word with its sign behind its digits.
+pub fn has_sign_behind(line: &[u8]) -> bool
+    ensures { result ≡ sign.has_sign_behind line.now }
+{
+    line.split(|byte| *byte == b' ').any(is_signed_behind)
+}
+
+/// Whether a line begins with a location and a colon.
+pub fn has_colon(line: &[u8]) -> bool
+    ensures { result ≡ sign.has_colon line.now }
+{
+    begins_as(b"0000:", line)
+}
+
+/// How many pieces a line has.
+fn piece_count(line: &[u8]) -> usize
+    ensures { result ≡ length (sign.pieces line.now) }
+{
+    line.split(|byte| *byte == b' ').count()
+}
+
+/// Whether a line is a card or a load card of inputs, with other than ten pieces behind its name.
+pub fn is_card_of_other_length(line: &[u8]) -> bool
+    ensures { result ≡ sign.is_card_of_other_length line.now }
+{
+    let is_card = line.starts_with(b"CARD ".as_slice()) || line.starts_with(b"LOAD ".as_slice());
+    is_card && piece_count(line) != 11
+}
+
+/// Whether a line is an angle of inputs, of one digit.
+pub fn is_angle_of_one_digit(line: &[u8]) -> bool
+    ensures { result ≡ sign.is_angle_of_one_digit line.now }
+{
+    has_form(b"ANGLE 0", line)
 }

@@ -28,7 +28,7 @@ added_some f before found added places k place here so_far more =
     ∙ ap (λ (one : ℕ). flat_map f (take k places) ++ f one) at))
 
 -- the numbers from one on, that one first
-range_first : (number end : ℕ) → number < end
+pub range_first : (number end : ℕ) → number < end
     → range_with_len number (end - number) ≡ number ∷ range_with_len (number + 1) (end - (number + 1))
 range_first number end below =
     ap (range_with_len number) (long number end below)
@@ -83,6 +83,16 @@ added_next f before after number below lt added =
     let rest : List Finding = flat_map f (range_with_len (number + 1) (below - (number + 1))) in
     ap (λ (all : List Finding). all ++ rest) added ∙ append_assoc before (f number) rest
     ∙ sym (ap (λ (xs : List ℕ). before ++ flat_map f xs) (range_first number below lt))
+
+-- one more number of a range that is told by itself
+pub told_next : (tells : ℕ → Finding) (before after : List Finding) (number below : ℕ) → number < below
+    → after ≡ before ++ tells number ∷ []
+    → after ++ map tells (range_with_len (number + 1) (below - (number + 1)))
+    ≡ before ++ map tells (range_with_len number (below - number))
+told_next tells before after number below lt added =
+    let rest : List Finding = map tells (range_with_len (number + 1) (below - (number + 1))) in
+    ap (λ (all : List Finding). all ++ rest) added ∙ append_assoc before (tells number ∷ []) rest
+    ∙ sym (ap (λ (xs : List ℕ). before ++ map tells xs) (range_first number below lt))
 
 -- no number is left of a range
 pub added_all : (f : ℕ → List Finding) (found : List Finding) (number below : ℕ) → below ≤ number

@@ -68,7 +68,7 @@ tells_none (finding.Loop edge number) other = (refl, λ word. refl)
 tells_none (finding.UnusedMark edge) other = (refl, λ word. refl)
 tells_none (finding.UnusedList location) other = (refl, λ word. refl)
 tells_none (finding.UnusedCall edge) other = (refl, λ word. refl)
-tells_none (finding.Idle location) other = (refl, λ word. refl)
+tells_none (finding.Idle first last) other = (refl, λ word. refl)
 tells_none (finding.Inside inner outer) other = (refl, λ word. refl)
 
 pub other_more : (before : List Finding) (one : held.Finding)

@@ -64,7 +64,7 @@ none_or_one (closes edge number) = inl (refl, λ word. refl)
 none_or_one (unused_mark edge) = inl (refl, λ word. refl)
 none_or_one (unused_list place) = inl (refl, λ word. refl)
 none_or_one (unused_call edge) = inl (refl, λ word. refl)
-none_or_one (idle place) = inl (refl, λ word. refl)
+none_or_one (idle first last) = inl (refl, λ word. refl)
 none_or_one (inside inner outer) = inl (refl, λ word. refl)
 
 -- what is left of the word that a writer alters, and of another one

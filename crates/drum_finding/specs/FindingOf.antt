@@ -20,7 +20,7 @@ seen (finding.Loop edge within) = closes (edge_of edge) within
 seen (finding.UnusedMark edge) = unused_mark (edge_of edge)
 seen (finding.UnusedList location) = unused_list location.number
 seen (finding.UnusedCall edge) = unused_call (edge_of edge)
-seen (finding.Idle location) = idle location.number
+seen (finding.Idle first last) = idle first.number last.number
 seen (finding.Inside inner outer) = inside (edge_of inner) (edge_of outer)
 
 -- the flags are those of the flow graph's executed locations without a list

@@ -1,6 +1,6 @@
 -- The lines of what was found. A location has four digits, an operation two, and other numbers are
 -- plain decimal.
-use Rattle.std.specs.Prelude.{ℕ, List, ◌++◌, codes, decimal, flat_map}
+use Rattle.std.specs.Prelude.{ℕ, List, ◌++◌, ◌==◌, if◌then◌else◌, codes, decimal, flat_map}
 use Rattle.drum_core.specs.Numeral.{digits_of}
 use Rattle.drum_finding.specs.Finding.{Finding, not_loaded, not_in_profile, alters, too_large}
 use Rattle.drum_finding.specs.Finding.{closes, unused_mark, unused_list, unused_call, idle}
@@ -20,7 +20,9 @@ finding_text (unused_mark edge) =
 finding_text (unused_list place) = codes "unused list " ++ digits_of 4 place ++ codes "\n"
 finding_text (unused_call edge) =
     codes "unused call " ++ digits_of 4 edge.0 ++ codes " " ++ digits_of 4 edge.1 ++ codes "\n"
-finding_text (idle place) = codes "idle " ++ digits_of 4 place ++ codes "\n"
+finding_text (idle first last) =
+    codes "idle " ++ digits_of 4 first
+    ++ (if first == last then codes "\n" else codes " to " ++ digits_of 4 last ++ codes "\n")
 finding_text (inside inner outer) =
     codes "inside " ++ digits_of 4 inner.0 ++ codes " " ++ digits_of 4 inner.1 ++ codes " "
     ++ digits_of 4 outer.0 ++ codes " " ++ digits_of 4 outer.1 ++ codes "\n"

@@ -1,8 +1,8 @@
 -- The words of a deck that nothing comes to: they are neither executed, nor named as data by an
 -- instruction that is. `loads` says which word the deck loads into a location.
-use Rattle.std.specs.Prelude.{ℕ, ◌+◌, nat_lt, if◌then◌else◌, ◌&&◌, not, Bool, List, [], ◌∷◌}
-use Rattle.std.specs.Prelude.{flat_map, Option, Some, None, is_some}
-use Rattle.std.specs.List.{range_with_len}
+use Rattle.std.specs.Prelude.{ℕ, ◌+◌, ◌-◌, nat_lt, if◌then◌else◌, ◌&&◌, not, Bool, List, [], ◌∷◌}
+use Rattle.std.specs.Prelude.{flat_map, map, length, Option, Some, None, is_some}
+use Rattle.std.specs.List.{range_with_len, take_while}
 use Rattle.drum_core.specs.declared.instruction.Instruction.{Instruction}
 use Rattle.drum_core.specs.declared.op.Op.{Op}
 use Rattle.drum_core.specs.declared.op.Op.TheVariants.{Add, ResetAdd, Divide, DivideReset}
@@ -69,10 +69,25 @@ is_idle loads notes executed place =
     is_some (loads place) && not (is_among executed place)
     && not (is_among (named loads notes executed) place)
 
--- that it is so
+-- whether a word is idle and the one before it isn't
+abbrev pub is_first : (ℕ → Bool) → ℕ → Bool
+is_first is_one place = is_one place && not (nat_lt 0 place && is_one (place - 1))
+
+-- how many words are idle from one on, one after the other
+abbrev pub idle_from : (ℕ → Bool) → ℕ → ℕ
+idle_from is_one place = length (take_while is_one (range_with_len place (2000 - place)))
+
+-- what is told of so many idle words from one on: of three and more at once, of fewer word by word
+abbrev pub told_idle : ℕ → ℕ → List Finding
+told_idle first count =
+    if nat_lt count 3 then map (λ place. idle place place) (range_with_len first count)
+    else idle first (first + count - 1) ∷ []
+
+-- what is told where a word is the first of those
 abbrev pub idle_at : (ℕ → Option Word) → Notes → List ℕ → ℕ → List Finding
 idle_at loads notes executed place =
-    if is_idle loads notes executed place then idle place ∷ [] else []
+    if is_first (is_idle loads notes executed) place
+    then told_idle place (idle_from (is_idle loads notes executed) place) else []
 
 -- The locations on the drum.
 unfoldable pub drum_locations : List ℕ

@@ -147,7 +147,8 @@ are_long notes findings =
 -- the line before the marks that says so
 abbrev pub long_text : Bool → List ℕ
 long_text long =
-    if long then codes "# long notes (64 marks at most): for check, graph, ceiling and trace only\n"
+    if long then codes "# long notes (64 marks at most): "
+    ++ codes "not for bound, report, table, size, replay or draw with inputs\n"
     else []
 
 -- what a check prints: a line for each finding, and what is lacking, the marks first; `long` says

@@ -1,12 +1,12 @@
 -- The words that executed instructions name, as they are held: a flag for each word of the drum.
-use Rattle.std.specs.Prelude.{◌≡◌, ◌≤◌, ◌<◌, ◌↔◌, ◌⊎◌, ℕ, true, Some, Contains, slice_get}
+use Rattle.std.specs.Prelude.{◌≡◌, ◌≤◌, ◌<◌, ◌↔◌, ◌⊎◌, ℕ, Bool, true, Some, Contains, slice_get}
 use Rattle.drum_core.specs.Instruction.{instruction}
 use Rattle.drum_deck.specs.InDeck.{loads_in}
 use Rattle.drum_times.specs.declared.notes.pattern.Pattern.{Pattern}
 use Rattle.drum_flow.specs.declared.flow_graph.Flow.{Flow}
 use Rattle.drum_flow.specs.Flow.{executed_in}
 use Rattle.drum_finding.specs.declared.named.Named.{Named}
-use Rattle.drum_finding.specs.Idle.{named, names}
+use Rattle.drum_finding.specs.Idle.{is_idle, named, names}
 
 -- the flag of a word is set
 abbrev pub IsFlagged : Named → ℕ → Type 0
@@ -32,3 +32,7 @@ abbrev pub AreNamed : Flow → Named → Type 0
 AreNamed flow held =
     (word : ℕ) → IsFlagged held word
     ↔ Contains (named (loads_in flow.deck.now) flow.notes.now (executed_in flow)) word
+
+-- whether nothing comes to a word that the flow graph's deck loads
+abbrev pub is_idle_in : Flow → ℕ → Bool
+is_idle_in flow = is_idle (loads_in flow.deck.now) flow.notes.now (executed_in flow)

@@ -33,9 +33,12 @@ pub enum Finding {
     UnusedList(Location),
     /// A call is made by this edge, which the flow graph doesn't have, or its exit isn't executed.
     UnusedCall(Edge),
-    /// The deck loads a word here that is neither executed nor named as data by an instruction that
-    /// is allowed at an executed location.
-    Idle(Location),
+    /// The deck loads words from the first of these locations to the last, all of them neither
+    /// executed nor named as data by an instruction that is allowed at an executed location.
+    Idle {
+        first: Location,
+        last: Location,
+    },
     /// The loop that an edge of a mark closes stands inside the one that an edge of another mark
     /// closes, and the notes don't say that the one mark stands inside the other. These are the
     /// marks' first edges.
@@ -96,13 +99,13 @@ impl Finding {
         self.shared_onto(head).is_some()
     }
 
-    /// Whether it may be meant as it is: a word that nothing comes to may be kept for later, and a
+    /// Whether it may be meant as it is: words that nothing comes to may be kept for later, and a
     /// mark that doesn't say inside which other one it stands may be one whose passes are counted
     /// over the whole run.
     pub fn may_be_meant(&self) -> bool
         ensures { result ≡ said.may_be_meant (seen self.now) }
     {
-        matches!(self, Finding::Idle(_) | Finding::Inside { .. })
+        matches!(self, Finding::Idle { .. } | Finding::Inside { .. })
     }
 
     /// Whether all of these may be meant as they are.

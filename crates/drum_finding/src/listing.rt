@@ -3,6 +3,7 @@
 ghost use Rattle.std.specs.Prelude.{◌++◌, codes, decimal, map};
 ghost use Rattle.drum_core.specs.Numeral.{digits_of};
 ghost use Rattle.drum_sheet.specs.Stands.{Passes};
+ghost use Rattle.drum_finding.specs.Finding.{idle};
 ghost use Rattle.drum_finding.specs.FindingOf.{seen};
 ghost use Rattle.drum_finding.specs.FindingsText.{finding_text, findings_text};
 
@@ -82,6 +83,21 @@ fn put_product<O: Output>(sheet: &mut Sheet, writer: &mut O, product: u128)
     sheet.put(writer, b"\n");
 }
 
+/// Puts the line of idle words, from one to another one.
+#[tactic(auto, using(drum_sheet::proofs::Passing::passing))]
+fn put_idle<O: Output>(sheet: &mut Sheet, writer: &mut O, first: Location, last: Location)
+    ensures { Passes (O.device writer.old) sheet.old (O.device writer.new) sheet.new
+        (finding_text (idle first.number last.number)) }
+{
+    sheet.put(writer, b"idle ");
+    put_location(sheet, writer, first);
+    if first.number() == last.number() {
+        sheet.put(writer, b"\n");
+    } else {
+        put_located(sheet, writer, b" to ", last);
+    }
+}
+
 /// Puts the line of a finding.
 #[tactic(auto, using(drum_sheet::proofs::Passing::passing))]
 fn put_finding<O: Output>(sheet: &mut Sheet, writer: &mut O, finding: &Finding)
@@ -111,7 +127,7 @@ fn put_finding<O: Output>(sheet: &mut Sheet, writer: &mut O, finding: &Finding)
         Finding::UnusedCall(edge) => {
             put_locations(sheet, writer, b"unused call ", edge.from, edge.onto);
         }
-        Finding::Idle(location) => put_located(sheet, writer, b"idle ", location),
+        Finding::Idle { first, last } => put_idle(sheet, writer, first, last),
         Finding::Inside { inner, outer } => put_edges(sheet, writer, b"inside ", inner, outer),
     }
 }

@@ -204,9 +204,10 @@ pub fn put_long<O: Output>(sheet: &mut Sheet, writer: &mut O, long: bool)
         (long_text long) }
 {
     if long {
+        sheet.put(writer, b"# long notes (64 marks at most): ");
         sheet.put(
             writer,
-            b"# long notes (64 marks at most): for check, graph, ceiling and trace only\n",
+            b"not for bound, report, table, size, replay or draw with inputs\n",
         );
     }
 }

@@ -1,7 +1,8 @@
 //! The way through the pieces of a walk in rounds, hop by hop: what was gone through is passed over
-//! where it comes again.
+//! where it comes again, and so is what comes before the piece from which on the walk is drawn.
 
 use crate::pieces::{Content, PieceHop, Rounds, Weighed};
+use crate::start::Start;
 use drum_scene::{Brace, Braces, DrawnHop, Rows};
 use std::alloc::{AllocError, Global};
 use std::mem;
@@ -24,6 +25,8 @@ struct Open<'a> {
     behind: usize,
     /// How many hops were drawn when it began.
     hops: usize,
+    /// Whether it is drawn from its beginning.
+    is_begun: bool,
 }
 
 /// Where the way through the walk is.
@@ -36,31 +39,40 @@ pub struct Going<'a> {
     open: Vec<Open<'a>>,
     /// The moment: word times since the first revolution began.
     moment: u128,
+    /// From where on the walk is drawn, where the way hasn't come there yet.
+    start: Option<Start>,
     rows: Rows,
     braces: Braces,
 }
 
 impl<'a> Going<'a> {
     /// At the beginning of a walk, at an angle of the drum.
-    fn new(alloc: Global, pieces: &'a [Weighed<'a>], angle: u64) -> Result<Going<'a>, AllocError> {
+    fn new(
+        alloc: Global,
+        pieces: &'a [Weighed<'a>],
+        angle: u64,
+        start: Option<Start>,
+    ) -> Result<Going<'a>, AllocError> {
         Ok(Going {
             pieces,
             gone: vec![in alloc; false; pieces.len()]?,
             open: Vec::new(alloc),
             moment: u128::from(angle),
+            start,
             rows: Rows::new(alloc, MOST_ROWS),
             braces: Braces::new(alloc),
         })
     }
 
     /// The rows and braces of a walk that begins at an angle of the drum, whose last piece is the
-    /// whole.
+    /// whole; from its beginning, or from another piece on.
     pub fn all(
         alloc: Global,
         pieces: &'a [Weighed<'a>],
         angle: u64,
+        start: Option<Start>,
     ) -> Result<(Rows, Braces), AllocError> {
-        let mut going = Going::new(alloc, pieces, angle)?;
+        let mut going = Going::new(alloc, pieces, angle, start)?;
         let mut has_room = going.enter(pieces.len().saturating_sub(1))?;
         for _ in 0..MOST_STEPS {
             if !has_room || going.open.is_empty() {
@@ -96,6 +108,10 @@ impl<'a> Going<'a> {
         let Some(piece) = self.pieces.get(number) else {
             return Ok(true);
         };
+        if self.is_before_start(number) {
+            self.pass(piece.time());
+            return Ok(true);
+        }
         let rounds = match piece.content {
             Content::Hop(hop) => return self.draw(hop),
             Content::Rounds(rounds) => rounds,
@@ -109,8 +125,25 @@ impl<'a> Going<'a> {
             rounds,
             behind: 0,
             hops: self.rows.hops.len(),
+            is_begun: self.start.is_none(),
         })?;
         Ok(true)
+    }
+
+    /// Whether the walk is drawn from a piece on that the way hasn't come to, and that isn't in this
+    /// one; at that piece the way has come to it.
+    fn is_before_start(&mut self, number: usize) -> bool {
+        match self.start.take() {
+            None => false,
+            Some(start) => {
+                if start.is_at(number) {
+                    return false;
+                }
+                let is_before = !start.is_within(number);
+                self.start = Some(start);
+                is_before
+            }
+        }
     }
 
     /// Whether a piece was gone through before; from now on it was.
@@ -167,6 +200,7 @@ impl<'a> Going<'a> {
             times: open.rounds.times,
             first,
             last: self.rows.shown.len().saturating_sub(1),
+            is_begun: open.is_begun,
             is_whole,
         })
     }

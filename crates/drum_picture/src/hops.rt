@@ -5,9 +5,6 @@ use drum_times::Times;
 use drum_walks::Visit;
 use std::alloc::{AllocError, Global};
 
-/// How many rows are the walk's first, where it spends most further on.
-const FIRST_ROWS: usize = 6;
-
 /// How many hops are looked at for the rows, from one on: rows have no more word times.
 const MOST_VISITS: usize = 1200;
 
@@ -53,8 +50,8 @@ impl Hops<'_> {
         Some((place, self.hop(visit).first_revolution()))
     }
 
-    /// The rows: those of the first hops, and where the walk spends most further on, those from
-    /// there on.
+    /// The rows: those of the first hops; or, where the walk comes to the location at which it
+    /// spends most later than these, those from there on.
     pub fn rows(
         self,
         alloc: Global,
@@ -65,10 +62,11 @@ impl Hops<'_> {
         self.take_from(&mut rows, 0)?;
         if let Some((place, revolution)) = self.heaviest(tallies) {
             if revolution > rows.last() {
-                rows.cut(FIRST_ROWS);
+                let mut rows = Rows::new(alloc, PAGE_ROWS);
+                rows.jump();
                 self.take_from(&mut rows, place)?;
-                let from = revolution.saturating_add(1);
-                return Ok((rows, Extent::Again(FIRST_ROWS, from)));
+                let extent = Extent::From(revolution.saturating_add(1), rows.shown.len());
+                return Ok((rows, extent));
             }
         }
         let extent = Extent::until(walk, rows.last());

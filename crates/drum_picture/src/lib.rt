@@ -8,8 +8,8 @@
 //! shown, the scene of `drum_scene`, and has `drum_drawing` draw it. `of_analysis` finds it of an
 //! analysis, `of_rounds` of a walk in rounds, and `of_run` of a `run`, which takes in one
 //! step after the other. `hops` finds the revolutions that are shown in a list of hops. Of a walk
-//! in rounds `pieces` tells what each piece takes and how often it comes, and `going` goes through
-//! them, hop by hop.
+//! in rounds `pieces` tells what each piece takes and how often it comes, `start` from which of them
+//! on it is drawn, and `going` goes through them, hop by hop.
 //!
 //! Proofs. `Pictured` says what a picture says by what its walk was found in.
 #![tactic(auto)]
@@ -22,6 +22,7 @@ mod of_run;
 mod pictures;
 mod pieces;
 mod run;
+mod start;
 
 pub use pictures::{picture, picture_in_rounds, picture_of_run};
 pub use run::Run;

@@ -6,9 +6,12 @@ ghost use Rattle.drum_scene.specs.declared.walk.Kind.TheVariants as kinds;
 
 use crate::going::Going;
 use crate::pieces::{Content, Weighed, weigh};
+use crate::start::{Start, heaviest};
 use drum_deck::Deck;
 use drum_rounds::InRounds;
-use drum_scene::{Edge, Edges, Extent, Kind, Rows, Scene, Shares, TakenEdge, Tallies, Walk};
+use drum_scene::{
+    Braces, Edge, Edges, Extent, Kind, Rows, Scene, Shares, TakenEdge, Tallies, Walk,
+};
 use drum_times::{Notes, Times};
 use std::alloc::{AllocError, Global};
 
@@ -35,7 +38,7 @@ fn count(tallies: &mut Tallies, pieces: &[Weighed<'_>]) {
     }
 }
 
-/// How much of a walk these rows are.
+/// How much of a walk these rows are, which begin with its first.
 fn extent_of(walk: Walk, rows: &Rows) -> Extent {
     let mut time = 0u128;
     for hop in rows.hops.iter() {
@@ -46,6 +49,27 @@ fn extent_of(walk: Walk, rows: &Rows) -> Extent {
     } else {
         Extent::All
     }
+}
+
+/// What is drawn of a walk from its beginning; or, where it comes to the location at which it spends
+/// most later than that, from the rounds on in which it does so.
+fn shown_of(
+    alloc: Global,
+    walk: Walk,
+    pieces: &[Weighed<'_>],
+    tallies: &Tallies,
+) -> Result<(Rows, Braces, Extent), AllocError> {
+    let (rows, braces) = Going::all(alloc, pieces, walk.angle, None)?;
+    if let Some((hop, place)) = heaviest(pieces, tallies) {
+        if !rows.has_hop_of(place) {
+            let start = Start::before(alloc, pieces, hop)?;
+            let (rows, braces) = Going::all(alloc, pieces, walk.angle, Some(start))?;
+            let extent = Extent::From(rows.first().saturating_add(1), rows.shown.len());
+            return Ok((rows, braces, extent));
+        }
+    }
+    let extent = extent_of(walk, &rows);
+    Ok((rows, braces, extent))
 }
 
 /// What is drawn of a walk in rounds of a deck, a timing table and notes, with its shares.
@@ -71,14 +95,14 @@ pub fn of_rounds(
     let mut tallies = Tallies::new(alloc)?;
     count(&mut tallies, &pieces);
     tallies.note_flow(alloc, deck, notes)?;
-    let (rows, braces) = Going::all(alloc, &pieces, walk.angle)?;
+    let (rows, braces, extent) = shown_of(alloc, walk, &pieces, &tallies)?;
     Ok(Scene {
         walk,
         tallies,
         edges: edges_of(alloc, &pieces)?,
         shares,
-        extent: extent_of(walk, &rows),
         rows,
+        extent,
         braces,
     })
 }

@@ -17,7 +17,9 @@ pub struct Brace {
     pub first: usize,
     /// The last one.
     pub last: usize,
-    /// Whether the round is drawn to its end.
+    /// Whether the round is drawn from its beginning.
+    pub is_begun: bool,
+    /// Whether it is drawn to its end.
     pub is_whole: bool,
 }
 

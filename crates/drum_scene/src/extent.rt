@@ -9,8 +9,9 @@ pub enum Extent {
     All,
     /// So many revolutions, the first ones.
     First(u128),
-    /// So many revolutions, the first ones, and then those from one on, which counts from 1.
-    Again(usize, u128),
+    /// So many revolutions, from one on in which the walk comes to where it spends most. It counts
+    /// from 1.
+    From(u128, usize),
     /// So many revolutions, which need not be in a row, or only parts of them.
     Some(usize),
 }

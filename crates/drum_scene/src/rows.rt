@@ -1,6 +1,7 @@
 //! Which revolutions are drawn, and the hops in them.
 
 use crate::drawn_hop::DrawnHop;
+use drum_core::Location;
 use std::alloc::{AllocError, Global};
 
 /// How many rows the page has room for where it is no longer than wide; walks in rounds may have
@@ -112,17 +113,16 @@ impl Rows {
         Ok(())
     }
 
-    /// Keeps so many rows, the first ones, and the hops that begin in them; then time jumps.
-    pub fn cut(&mut self, rows: usize) {
-        self.shown.truncate(rows);
-        let last = self.last();
-        let kept = self
-            .hops
+    /// Whether a hop from this location is drawn.
+    pub fn has_hop_of(&self, place: Location) -> bool {
+        self.hops
             .iter()
-            .filter(|hop| hop.first_revolution() <= last)
-            .count();
-        self.hops.truncate(kept);
-        self.jump();
+            .any(|hop| hop.visit.place.number() == place.number())
+    }
+
+    /// The first revolution that is shown; 0 where there is none.
+    pub fn first(&self) -> u128 {
+        self.shown.first().map_or(0, |row| row.revolution)
     }
 
     /// The last revolution that is shown; 0 where there is none.

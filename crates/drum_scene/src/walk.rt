@@ -55,6 +55,15 @@ impl Walk {
         }
     }
 
+    /// How many seconds it takes at 96 microseconds a word time, rounded.
+    pub fn seconds(self) -> Tenths {
+        // 3 tenths to 3125 word times: the whole ones first, so that the product fits
+        let rest = (self.time % 3125 * 3 + 1562) / 3125;
+        Tenths {
+            count: (self.time / 3125 * 3).saturating_add(rest),
+        }
+    }
+
     /// How many milliseconds it takes at 96 microseconds a word time, rounded.
     pub fn milliseconds(self) -> Tenths {
         // 24 tenths to 25 word times: the whole ones first, so that the product fits

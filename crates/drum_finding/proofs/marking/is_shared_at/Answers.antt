@@ -17,7 +17,7 @@ one_alike head (too_large product) none = refl
 one_alike head (unused_mark edge) none = refl
 one_alike head (unused_list place) none = refl
 one_alike head (unused_call edge) none = refl
-one_alike head (idle place) none = refl
+one_alike head (idle first last) none = refl
 one_alike head (inside inner outer) none = refl
 
 none_left : (a b : Bool) → (a || b) ≡ false → a ≡ false
