@@ -37,12 +37,18 @@ class Crates:
         return "src/main.rt" if is_program else "src/lib.rt"
 
     def files(self, crate, parts=("src", "specs", "proofs")):
-        """The files of a crate that the checker reads, in order."""
+        """The files of a crate that the checker reads, in order; not those that editors leave."""
         found = []
         for part in parts:
             for folder, _, names in os.walk(os.path.join(self.folder(crate), part)):
-                found += [os.path.join(folder, name) for name in names]
+                found += [os.path.join(folder, name) for name in names if is_source(name)]
         return sorted(found)
+
+
+def is_source(name):
+    """Whether a file of this name is one that somebody wrote: editors begin theirs with `.` or
+    `#`, or give them other ends."""
+    return name.endswith((".rt", ".antt")) and not name.startswith((".", "#"))
 
 
 def kit():
