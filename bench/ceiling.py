@@ -4,7 +4,7 @@ prints the figures.
 
     bench/ceiling.py [PROGRAM [COUNT [EARLIER]]]
 
-PROGRAM is the newest that was built (checks/program.py) unless it is given. EARLIER is another
+PROGRAM is the one of these sources (checks/program.py) unless it is given. EARLIER is another
 build, whose ceilings and times are compared too.
 
 The decks are made here, from seeds:

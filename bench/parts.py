@@ -4,7 +4,7 @@ docs/FAULTS.md tells at fault 36, the ceiling, and the optimum of two linear pro
 
     bench/parts.py [PROGRAM]
 
-PROGRAM is the newest that was built (checks/program.py) unless it is given.
+PROGRAM is the one of these sources (checks/program.py) unless it is given.
 
 The decks are five loops of a hundred rounds each, one after the other, with their words a number of
 places apart: with 1 that is examples/five."""
