@@ -1,4 +1,4 @@
-//! The joined form on an input that gives a byte a call, fails or never ends.
+//! The joined form on an input that gives a byte a call, fails or never ends, or ends too early.
 
 use crate::devices::Tap;
 use crate::devices::running::{AMPLE, Ran, run_over};
@@ -72,6 +72,37 @@ fn without_end(rt: HostRuntime) -> Result<(), Fail> {
         );
         assert!(rt; ran.calls <= 16_777_217, "{} calls", ran.calls);
         assert_eq!(rt; ran.failures, 0);
+    }
+    Ok(())
+}
+
+/// What is said where the notes end after so many bytes. Between a key and the end of its value
+/// they are no document.
+fn said_of_notes(bytes: usize) -> (Status, &'static str, &'static str) {
+    match bytes {
+        0 => (Status::Refused, "", "fault 13 notes missing programmed\n"),
+        19 | 20 => (Status::Refused, "", "fault 13 notes missing load_cards\n"),
+        39 | 40 => (Status::Done, "bound 56\n", ""),
+        _ => (Status::Refused, "", "fault 11 notes toml\n"),
+    }
+}
+
+/// A line feed is wanted neither of the line `%NOTES` nor of the notes.
+#[test]
+fn each_prefix(rt: HostRuntime) -> Result<(), Fail> {
+    let text = joined(rt.alloc())?;
+    let bytes = text.as_bytes();
+    assert_eq!(rt; NOTES.len(), 40);
+    let notes = bytes.len().saturating_sub(40);
+    for count in 0..=bytes.len() {
+        let prefix = bytes.get(..count).ok_or("a prefix")?;
+        let ran = ran(rt.alloc(), Tap::of(prefix));
+        let (status, out, err) = if count.saturating_add(1) < notes {
+            (Status::Refused, "", "fault 51 nopart\n")
+        } else {
+            said_of_notes(count.saturating_sub(notes))
+        };
+        assert!(rt; ran.is(status, out, err), "of {count} bytes");
     }
     Ok(())
 }
