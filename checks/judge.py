@@ -40,6 +40,8 @@ WALKED = ["walk", "report", "waits"]
 OF_LONG = [*CHECKS, "graph", "outline", "ceiling", "walk", "waits", "draw", "trace"]
 # Of these, past the bound, by the walk beside a ceiling.
 PAST_BOUND = ["walk", "waits", "draw"]
+# Those that tell of any deck, whatever an analysis refuses it for.
+OF_ANY = [*CHECKS, "graph", "outline"]
 # Those that look at inputs.
 OF_INPUTS = ["replay", "trace", CHECKS[1], PICTURES[1]]
 
@@ -437,6 +439,8 @@ def judged(case, ran, run):
         return told
     command, files = asked
     if told.fault:
+        is_refused = told.fault.about == "analysis" and told.fault.ending != "toomany"
+        hold("tells of any deck", not is_refused or command not in OF_ANY)
         hold("names what is there", names_what_is_there(told.fault, files))
     hold("reads notes", reads_notes(asked, told))
     for part in FILES[: 4 if command in OF_INPUTS else 3]:
