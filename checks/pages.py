@@ -18,7 +18,8 @@ def blocks_of(text):
 
 
 def commands_of(block):
-    """The commands of a block, each with the output that it shows."""
+    """The commands of a block, each with the output that it shows. A line of a command that ends
+    with a backslash goes on in the next."""
     for part in re.split(r"^\$ ", block, flags=re.M)[1:]:
-        command, _, output = part.partition("\n")
-        yield command, output
+        command = re.match(r"(?:.*\\\n)*.*", part)[0]
+        yield command, part[len(command) + 1 :]
