@@ -77,6 +77,12 @@ OF_LINES = [
         ["0100 +0000000001 +0000000002", "1999 +0000000003"],
     ),
     (
+        "cards of two words each",
+        "cards --head 24AAAA1911 --count 2",
+        ["2401001911 0000000001 0000000002", "2402001911 -0000000003 0000000000 +0000000000"],
+        ["0100 +0000000001 +0000000002", "0200 -0000000003 +0000000000"],
+    ),
+    (
         "other lines as comments",
         "cards --others comment",
         ["0001000001 0000000007", "  THE LAST ONE ", "0001010000"],
@@ -149,8 +155,8 @@ REFUSED = [
         "cards",
         ["0001000002 0000000001", "0001000001 0000000001 0000000002", "0001000000", "0100000001"],
         [
-            ":1: the head counts 2 words, but 1 come after it",
-            ":2: after the 1 words that the head counts come others",
+            ":1: words after the head: 1, not 2",
+            ":2: words after the head: 2, not 1",
             ":3: the head counts no words",
             ":4: word 1 isn't as the head is said to be",
         ],
@@ -176,6 +182,7 @@ WRONG = [
     "listing --columns 7,",
     "listing --others drop",
     "listing --head 00AAAA000N",
+    "dump --count 1",
     "cards --head AAAA",
     "cards --head 00AAA0000N",
     "cards --head AAAA00AAAA",
