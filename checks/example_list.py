@@ -67,7 +67,8 @@ EXAMPLES = [
     Example("a payroll with a word moved", "payroll", "placed.deck", "notes.toml", {"inputs": {}}),
     Example("a payroll by marks alone", "payroll", "deck", "marks.toml", {"inputs": {}}),
     Example("a payroll with a wrong way back", "payroll", "deck", "wrong.toml", {"inputs": None}),
-    Example("a deck that loads itself", "loader", "deck", "notes.toml", {"inputs": None}),
+    Example("cards that load themselves", "loader", "deck", "notes.toml", {"inputs": None}),
+    Example("a loader", "loader", "seven.deck", "seven.toml", {"seven.inputs": None}),
 ]
 
 # Decks to hold an emulator to: what each shows, its name, and its notes where it has notes of its
