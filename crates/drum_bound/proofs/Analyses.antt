@@ -79,7 +79,8 @@ few_rows : (cells : Cells) → length (rows_in cells) ≤ cells.words * cells.co
 few_rows cells =
     omega (
       arith,
-      cells.limit,
+      cells.entries.table.limit,
+      cells.keys,
       mul_comm cells.counts cells.words,
       length-map (values_of (pairs_of cells.entries)) row_in,
       length-map (pairs_of cells.entries) (λ (pair : ℕ × Worst). pair.1),

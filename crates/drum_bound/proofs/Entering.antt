@@ -169,7 +169,7 @@ written_cases key (first ∷ pairs) (suc index) entry pair is has =
     ]
 
 -- and so with one more
-added_cases : (pairs : List (ℕ × Worst)) (new pair : ℕ × Worst) → Contains (pairs ++ new ∷ []) pair
+pub added_cases : (pairs : List (ℕ × Worst)) (new pair : ℕ × Worst) → Contains (pairs ++ new ∷ []) pair
     → (new ≡ pair) ⊎ Contains pairs pair
 added_cases [] new pair has = elim (contains_cases new pair [] has) [
   | inl same ↦ inl same

@@ -8,6 +8,7 @@ use Rattle.std.proofs.lemmas.Bool.{cases_lt, cases_eq, ne_eqb, lt-ltb, le-ltb}
 use Rattle.std.proofs.lemmas.List.{ext_get_or, get_or-set_same, get_or-set_other, get_or_past, get_or-replicate, length-set}
 use Rattle.std.proofs.lemmas.List.{length-replicate}
 use Rattle.std.proofs.lemmas.Nat.{div_below}
+use Rattle.std.proofs.Math.Nat.{ℕ_set}
 use Rattle.drum_core.specs.declared.location.Location.{Location}
 use Rattle.drum_order.proofs.Lists.{contains_here, contains_there, get_other, get_written}
 use Rattle.drum_bound.specs.declared.cells.Cells.{Cells}
@@ -18,6 +19,10 @@ use Rattle.drum_bound.specs.declared.worst.Worst.{Worst}
 use Rattle.drum_bound.specs.InCells.{size_of, kept_below, kept_in, AreHeld}
 use Rattle.drum_bound.specs.InEntries.{latest_at, kept_by, kept_of, pairs_of, Adds}
 use Rattle.drum_bound.specs.Scanned.{cell_at, later, later_than, raised}
+
+-- two numbers are equal in one way
+pub one_equation : {m n : ℕ} (one other : m ≡ n) → one ≡ other
+one_equation {m} {n} one other = ℕ_set m n one other
 
 -- each key has a cell
 kept_long : (f : ℕ → Option Latest) (first n : ℕ) → length (map f (range_with_len first n)) ≡ n

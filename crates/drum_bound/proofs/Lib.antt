@@ -13,6 +13,7 @@ pub mod InCellsLaws
 mod InTime
 pub mod KeyLaws
 pub mod KeysTaken
+pub mod Limits
 pub mod Lists
 pub mod Onward
 pub mod Ordering

@@ -26,15 +26,27 @@ kept_by angle key (pair ∷ pairs) (origin ∷ origins) =
 
 -- the entries with their keys
 abbrev pub pairs_of : Entries → List (ℕ × Worst)
-pairs_of entries = entries.table.entries
+pairs_of entries = entries.table.map.entries
+
+-- how many keys there are
+abbrev pub keys_in : Entries → ℕ
+keys_in entries = entries.table.keys
 
 -- what is kept at a key
 abbrev pub kept_of : Entries → ℕ → Option Latest
 kept_of entries key = kept_by entries.angle key (pairs_of entries) entries.origins.items
 
 -- the entry of the start
-abbrev pub first_entry : Location → ℕ → Worst
-first_entry start angle = record { place = start; angle = angle; counts = 0; time = 0 }
+pub record IsFirst (start : Location) (at : ℕ) (entry : Worst) : Type 0 where
+  pub place : entry.place ≡ start
+  pub angle : entry.angle ≡ at
+  pub counts : entry.counts ≡ 0
+  pub time : entry.time ≡ 0
+
+-- it alone, with this key
+abbrev pub HasFirst : ℕ → Location → ℕ → List (ℕ × Worst) → Type 0
+HasFirst key start angle pairs =
+    (entry : Worst) × (pairs ≡ (key, entry) ∷ []) × IsFirst start angle entry
 
 -- the entry of this index is the first of a key
 abbrev pub IsEntryOf : ℕ → List (ℕ × Worst) → ℕ → Type 0

@@ -1,4 +1,5 @@
 pub mod AnalysisOf
+pub mod Below
 pub mod BoundOf
 pub mod Counted
 pub mod Digits
@@ -6,6 +7,7 @@ pub mod EndOf
 pub mod Ends
 pub mod InCells
 pub mod InEntries
+pub mod InLimited
 pub mod Keys
 pub mod KeysOf
 pub mod LeapOf

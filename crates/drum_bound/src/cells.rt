@@ -1,10 +1,11 @@
 //! What is kept at the keys: the table of worst times while it is raised.
 
-ghost use Rattle.std.specs.Prelude.{◌≡◌, ◌+◌, ◌*◌, ◌/◌, ◌≤◌, ◌<◌, ◌^◌, length};
-ghost use Rattle.drum_bound.specs.InEntries.{pairs_of};
+ghost use Rattle.std.specs.Prelude.{◌≡◌, ◌+◌, ◌*◌, ◌/◌, ◌≤◌, ◌<◌, ◌^◌};
+ghost use Rattle.drum_bound.specs.InEntries.{keys_in};
 
 mod entries;
 mod key_hasher;
+mod limited;
 
 use crate::instruction_search::InstructionSearch;
 use crate::latest::Latest;
@@ -46,14 +47,15 @@ pub struct Cells {
     /// How many executed locations there are, and how many counts the marks can have.
     words: usize,
     counts: usize,
-    /// There are never more entries than locations times counts.
-    ghost limit: { length (pairs_of entries) ≤ counts * words },
+    /// There are as many keys as locations times counts, and never more entries.
+    ghost keys: { keys_in entries ≡ counts * words },
 }
 
 impl Cells {
     ghost use Rattle.std.specs.Prelude.{ℕ, List, MatchOption, false, replicate, set, option_map};
     ghost use Rattle.std.specs.Prelude.{Some, None, IfOk, OnOk};
     ghost use Rattle.std.specs.Map.{values_of};
+    ghost use Rattle.drum_bound.specs.InEntries.{pairs_of};
     ghost use Rattle.drum_flow.specs.Walk.{Setting};
     ghost use Rattle.drum_bound.specs.InCells.{AreHeld, HaveEntries, IsOnward, SameScan};
     ghost use Rattle.drum_bound.specs.InCells.{kept_in, size_of};
@@ -92,7 +94,8 @@ impl Cells {
     {
         let mut rounds = vec![in alloc; false; counts]?;
         rounds[start_key / words] = true;
-        let entries = Entries::new(alloc, start_key as u32, start, angle)?;
+        let keys = counts * words;
+        let entries = Entries::new(alloc, keys, start_key as u32, start, angle)?;
         let last = Latest {
             clock: angle,
             origin: None,
@@ -209,9 +212,8 @@ impl Cells {
     {
         self.made += 1;
         let end = End::of(search, number, leap, steps);
-        let keys = self.counts * self.words;
         self.entries
-            .keep(onto.key as u32, keys, onto.location, onto.counts, &end)?;
+            .keep(onto.key as u32, onto.location, onto.counts, &end)?;
         self.rounds[onto.round] = true;
         self.last.raise(end.latest());
         Ok(())

@@ -1,5 +1,7 @@
 //! The entries of the table of worst times.
 
+ghost use Rattle.std.specs.Prelude.{◌<◌};
+
 use drum_core::Location;
 use drum_machine::Counts;
 use drum_times::Mark;
@@ -18,6 +20,7 @@ pub struct Worst {
     pub counts: u32,
     /// The word times used when that search begins.
     pub time: u64,
+    pub ghost on_drum: { angle < 50 },
 }
 
 impl Worst {

@@ -2,15 +2,13 @@
 
 ghost use Rattle.std.specs.Prelude.{◌≡◌, ◌≢◌, ◌+◌, ◌<◌, ◌≤◌};
 
-use super::key_hasher::KeyHasher;
+use super::limited::Limited;
 use crate::key_hop::KeyHop;
 use crate::latest::Latest;
 use crate::steps::end::End;
 use crate::worst::Worst;
 use drum_core::Location;
-use indexmap::IndexMap;
 use std::alloc::{AllocError, Global};
-use std::hash::BuildHasherDefault;
 
 /// How many entries there are when room for as many as there are keys is asked for at once.
 const MANY: usize = 65_536;
@@ -19,7 +17,7 @@ const MANY: usize = 65_536;
 /// were first led to, and where its time comes from.
 #[derive(Drop)]
 pub struct Entries {
-    table: IndexMap<u32, Worst, BuildHasherDefault<KeyHasher>>,
+    table: Limited,
     /// Where each entry's time comes from. The start's comes from its own key, which no hop does.
     origins: Vec<KeyHop>,
     /// The start angle: an entry's clock is its time from there on.
@@ -37,27 +35,29 @@ impl Entries {
     ghost use Rattle.std.specs.Map.{keys_of, values_of};
     ghost use Rattle.indexmap.specs.IndexMap.{get};
     ghost use Rattle.drum_bound.specs.EndOf.{latest_in};
-    ghost use Rattle.drum_bound.specs.InEntries.{AreKept, IsEntryOf, Keeps, first_entry, kept_of};
-    ghost use Rattle.drum_bound.specs.InEntries.{pairs_of};
+    ghost use Rattle.drum_bound.specs.InEntries.{AreKept, HasFirst, IsEntryOf, Keeps, kept_of};
+    ghost use Rattle.drum_bound.specs.InEntries.{keys_in, pairs_of};
 
-    /// The start's alone: its key keeps the moment of the start, at this angle.
+    /// The start's alone, of so many keys: its key keeps the moment of the start, at this angle.
     pub fn new(
         alloc: Global,
+        keys: usize,
         start_key: u32,
         start: Location,
         angle: u64,
     ) -> Result<Entries, AllocError>
+        requires there { start_key < keys }
         requires on_drum { angle < 50 }
         ensures kept { IfOk result AreKept }
         ensures start { IfOk result (λ entries. kept_of entries start_key
             ≡ Some (record { clock = angle; origin = None })) }
         ensures others { IfOk result (λ entries. (other : ℕ) → other ≢ start_key
             → kept_of entries other ≡ None) }
-        ensures entry { IfOk result (λ entries. pairs_of entries
-            ≡ (start_key, first_entry start angle) ∷ []) }
+        ensures entry { IfOk result (λ entries.
+            HasFirst start_key start angle (pairs_of entries)) }
         ensures angle { IfOk result (λ entries. entries.angle ≡ angle) }
+        ensures keys { IfOk result (λ entries. keys_in entries ≡ keys) }
     {
-        let mut table = IndexMap::with_hasher(alloc, BuildHasherDefault::new());
         let mut origins = Vec::new(alloc);
         let entry = Worst {
             place: start,
@@ -65,7 +65,7 @@ impl Entries {
             counts: 0,
             time: 0,
         };
-        table.insert(start_key, entry)?;
+        let table = Limited::new(alloc, keys, start_key, entry)?;
         origins.push(KeyHop {
             key: start_key,
             number: 0,
@@ -83,7 +83,7 @@ impl Entries {
     fn table(&self) -> &[Worst]
         ensures { result.now ≡ values_of (pairs_of self.now) }
     {
-        self.table.values().as_slice()
+        self.table.entries()
     }
 
     /// The entries, as a list that no map goes along with. Where their times come from is given up
@@ -92,7 +92,7 @@ impl Entries {
         ensures { IfOk result (λ table. table.items ≡ values_of (pairs_of self)) }
     {
         drop(self.origins);
-        Vec::from_slice(alloc, self.table.values().as_slice())
+        Vec::from_slice(alloc, self.table.entries())
     }
 
     /// The start angle, 0 to 49.
@@ -108,7 +108,7 @@ impl Entries {
         ensures key { result ≡ true → slice_get (keys_of (pairs_of self.now)) index ≡ Some key }
         ensures inside { result ≡ true → index < length (pairs_of self.now) }
     {
-        match self.table.keys().as_slice().get(index) {
+        match self.table.keys().get(index) {
             Some(one) => *one == key,
             None => false,
         }
@@ -121,7 +121,7 @@ impl Entries {
         requires { AreKept self.now }
         ensures found { IfSome result (IsEntryOf key (pairs_of self.now)) }
         ensures inside { IfSome result (λ index. index < length (pairs_of self.now)) }
-        ensures none { result ≡ None → get nat_eq self.now.table key ≡ None }
+        ensures none { result ≡ None → get nat_eq self.now.table.map key ≡ None }
     {
         if key > self.greatest {
             return None;
@@ -132,7 +132,7 @@ impl Entries {
         if near > 0 && self.is_at(key, near - 1) {
             return Some(near - 1);
         }
-        self.table.get_index_of(&key)
+        self.table.index_of(key)
     }
 
     /// What the entry of this index keeps, which is a key's.
@@ -178,30 +178,31 @@ impl Entries {
         Some(self.kept_by(key, index).clock)
     }
 
-    /// Keeps an end of a hop that goes on at a key, one of `keys` keys, at this location and with
-    /// the counts of this number, where it is later than what is kept there.
+    /// Keeps an end of a hop that goes on at a key, at this location and with the counts of this
+    /// number, where it is later than what is kept there.
     #[inline(always)]
     pub fn keep(
         &mut self,
         key: u32,
-        keys: usize,
         location: Location,
         counts: u32,
         end: &End,
     ) -> Result<(), AllocError>
         requires kept { AreKept self.old }
+        requires there { key < keys_in self.old }
         requires onward { end.now.origin.key < key }
         requires after { self.old.angle ≤ end.now.clock }
         ensures keeps { OnOk result (Keeps self.old key location counts (latest_in end.now)
             self.new) }
         ensures same { OnErr result (pairs_of self.new ≡ pairs_of self.old) }
+        ensures keys { keys_in self.new ≡ keys_in self.old }
     {
         match self.index_of(key, self.near) {
             Some(index) => {
                 self.raise(key, index, end);
                 Ok(())
             }
-            None => self.add(key, keys, location, counts, end),
+            None => self.add(key, location, counts, end),
         }
     }
 
@@ -213,8 +214,9 @@ impl Entries {
         requires inside { index < length (pairs_of self.old) }
         requires onward { end.now.origin.key < key }
         requires after { self.old.angle ≤ end.now.clock }
-        ensures { (location : Location) (counts : ℕ)
+        ensures keeps { (location : Location) (counts : ℕ)
             → Keeps self.old key location counts (latest_in end.now) self.new }
+        ensures keys { keys_in self.new ≡ keys_in self.old }
     {
         self.near = index;
         let was = self.table()[index];
@@ -222,34 +224,34 @@ impl Entries {
         if time <= was.time {
             return;
         }
-        let Some(entry) = self.table.get_index_mut(index) else {
-            unreachable!()
-        };
-        *entry = Worst {
+        let entry = Worst {
+            place: was.place,
             angle: end.angle(),
+            counts: was.counts,
             time,
-            ..was
         };
+        self.table.put(index, entry);
         self.origins[index] = end.origin();
     }
 
-    /// Adds the entry of a key, one of `keys` keys, at which nothing is kept.
+    /// Adds the entry of a key at which nothing is kept.
     #[inline(always)]
     fn add(
         &mut self,
         key: u32,
-        keys: usize,
         location: Location,
         counts: u32,
         end: &End,
     ) -> Result<(), AllocError>
         requires kept { AreKept self.old }
-        requires none { get nat_eq self.old.table key ≡ None }
+        requires there { key < keys_in self.old }
+        requires none { get nat_eq self.old.table.map key ≡ None }
         requires onward { end.now.origin.key < key }
         requires after { self.old.angle ≤ end.now.clock }
         ensures keeps { OnOk result (Keeps self.old key location counts (latest_in end.now)
             self.new) }
         ensures same { OnErr result (pairs_of self.new ≡ pairs_of self.old) }
+        ensures keys { keys_in self.new ≡ keys_in self.old }
     {
         let entry = Worst {
             place: location,
@@ -257,28 +259,29 @@ impl Entries {
             counts,
             time: end.clock() - self.angle,
         };
-        self.make_room(key, keys)?;
+        self.make_room(key)?;
         self.origins.push(end.origin())?;
-        self.table.insert(key, entry)?;
+        self.table.add(key, entry)?;
         Ok(())
     }
 
-    /// Makes ready for the entry of a key, one of `keys` keys: asks for room for all of them once
-    /// there are many entries, and has the next search begin near the new entry.
-    fn make_room(&mut self, key: u32, keys: usize) -> Result<(), AllocError>
+    /// Makes ready for the entry of a key: asks for room for all keys once there are many entries,
+    /// and has the next search begin near the new entry.
+    fn make_room(&mut self, key: u32) -> Result<(), AllocError>
         ensures pairs { pairs_of self.new ≡ pairs_of self.old }
         ensures origins { self.new.origins.items ≡ self.old.origins.items }
         ensures angle { self.new.angle ≡ self.old.angle }
         ensures grown { self.old.greatest ≤ self.new.greatest }
         ensures within { key ≤ self.new.greatest }
+        ensures keys { keys_in self.new ≡ keys_in self.old }
     {
         if key > self.greatest {
             self.greatest = key;
         }
         self.near = self.table.len();
         if self.near == MANY {
-            self.table.reserve(keys)?;
-            self.origins.reserve(keys)?;
+            self.table.reserve()?;
+            self.origins.reserve(self.table.most())?;
         }
         Ok(())
     }

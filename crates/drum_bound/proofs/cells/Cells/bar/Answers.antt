@@ -1,14 +1,14 @@
-use Rattle.std.proofs.Common.{◌+◌, ◌≤◌, length, ap, arith}
-use Rattle.std.proofs.Math.Bridge.{le_prop}
+use Rattle.std.proofs.Common.{◌≡◌, ◌+◌, ap, arith}
 use Rattle.drum_bound.specs.InCells.{size_of}
-use Rattle.drum_bound.specs.InEntries.{pairs_of}
+use Rattle.drum_bound.specs.InEntries.{keys_in}
+use Rattle.drum_bound.proofs.InCellsLaws.{one_equation}
 use Rattle.drum_bound.proofs.cells.Cells.bar.Goals as goal
 
 pub returns : goal.returns
 returns g c = record {
-  same = ap (λ (limit : length (pairs_of c.args.self.now.entries) ≤ size_of c.args.self.now). record c.args.self.now {
+  same = ap (λ (keys : keys_in c.args.self.now.entries ≡ size_of c.args.self.now). record c.args.self.now {
     made = c.args.self.now.made + 1;
-    limit = limit;
-  }) (le_prop _ c.args.self.now.limit);
+    keys = keys;
+  }) (one_equation _ c.args.self.now.keys);
   counted = c.of-end.ensures.counted;
 }

@@ -7,19 +7,25 @@ use Rattle.std.proofs.lemmas.List.{length-replicate, length-set}
 use Rattle.std.proofs.lemmas.Nat.{div_below}
 use Rattle.drum_order.proofs.Lists.{contains_cases, contains_none, get_written}
 use Rattle.drum_bound.specs.declared.worst.Worst.{Worst}
-use Rattle.drum_bound.specs.InEntries.{first_entry, pairs_of}
+use Rattle.drum_core.specs.declared.location.Location.{Location}
+use Rattle.drum_bound.specs.InEntries.{pairs_of}
 use Rattle.drum_bound.proofs.InCellsLaws.{first_is}
 use Rattle.drum_bound.proofs.cells.Cells.new.Goals as goal
 
--- the one key is the start's
+-- the one entry is the start's
+first_pair : (pairs : List (ℕ × Worst)) (start key : ℕ) (first entry : Worst) → pairs ≡ (start, first) ∷ []
+    → Contains pairs (key, entry) → ◌≡◌ {A = ℕ × Worst} (start, first) (key, entry)
+first_pair pairs start key first entry is there =
+    elim (contains_cases (start, first) (key, entry) []
+    (subst (λ (all : List (ℕ × Worst)). Contains all (key, entry)) is there)) [
+      | inl same ↦ same
+      | inr none ↦ absurd (contains_none (key, entry) none)
+    ]
+
 first_key : (pairs : List (ℕ × Worst)) (start key : ℕ) (first entry : Worst) → pairs ≡ (start, first) ∷ []
     → Contains pairs (key, entry) → start ≡ key
 first_key pairs start key first entry is there =
-    elim (contains_cases (start, first) (key, entry) []
-    (subst (λ (all : List (ℕ × Worst)). Contains all (key, entry)) is there)) [
-      | inl same ↦ ap (λ (pair : ℕ × Worst). pair.0) same
-      | inr none ↦ absurd (contains_none (key, entry) none)
-    ]
+    ap (λ (pair : ℕ × Worst). pair.0) (first_pair pairs start key first entry is there)
 
 -- its round is one of the rounds
 first_round : (start words counts : ℕ) → start < counts * words → start / words < counts
@@ -39,8 +45,8 @@ returns-clause-held c =
       rounds = length-set c.in_ok-rounds.rounds.items (start / words) true ∙ long;
       noted = λ key entry there.
           let same : start ≡ key =
-          first_key (pairs_of c.in_ok-entries.entries) start key (first_entry c.args.start c.args.angle) entry
-          c.in_ok-entries.ensures.entry there in (
+          first_key (pairs_of c.in_ok-entries.entries) start key c.in_ok-entries.ensures.entry.0 entry
+          c.in_ok-entries.ensures.entry.1 there in (
             omega (arith, same, c.requires.there),
             ap (λ (k : ℕ). slice_get (set c.in_ok-rounds.rounds.items (start / words) true) (k / words)) (sym same)
                 ∙ get_written c.in_ok-rounds.rounds.items (start / words) true
@@ -54,3 +60,14 @@ returns-clause-kept c =
     first_is c.in_ok-entries.entries (c.args.counts * c.args.words) c.args.start_key
     (record { clock = c.args.angle; origin = None }) c.requires.there c.in_ok-entries.ensures.start
     c.in_ok-entries.ensures.others
+
+pub returns-clause-entries : goal.returns-clause-entries
+returns-clause-entries c = λ place_of counts_of at counted key entry there.
+    let first = c.in_ok-entries.ensures.entry in
+    let same =
+    first_pair (pairs_of c.in_ok-entries.entries) c.args.start_key key first.0 entry first.1 there in
+    let own : c.args.start_key ≡ key = ap (λ (pair : ℕ × Worst). pair.0) same in (
+      sym (ap (λ (pair : ℕ × Worst). pair.1.place.number) same) ∙ ap (λ (l : Location). l.number) first.2.place ∙ at
+          ∙ ap place_of own,
+      sym (ap (λ (pair : ℕ × Worst). pair.1.counts) same) ∙ first.2.counts ∙ counted ∙ ap counts_of own,
+    )

@@ -8,7 +8,6 @@ use Rattle.drum_bound.specs.declared.latest.Latest.{Latest}
 use Rattle.drum_bound.specs.InEntries.{kept_of, pairs_of}
 use Rattle.drum_bound.specs.Scanned.{later_than}
 use Rattle.drum_bound.specs.SearchOf.{end_sought}
-use Rattle.drum_bound.proofs.EntryKeys.{entries_few}
 use Rattle.drum_bound.proofs.InCellsLaws.{clock_after, raised_entries, raised_is, raised_noted}
 use Rattle.drum_flow.proofs.LongestLaws.{longest_later}
 use Rattle.drum_bound.proofs.cells.Cells.raise.Goals as goal
@@ -26,18 +25,6 @@ keep-requires-clause-after g c =
       ap (λ (l : Latest). l.clock) c.of-end.ensures.latest,
       longest_later g.setting.times search.location.number ins way search.begun,
     )
-
-pub invariant_of-self-2 : goal.invariant_of-self-2
-invariant_of-self-2 g c =
-    let cells = c.args.self.now in
-    let onto = c.args.onto.now in
-    let onward = c.requires.1.1.1 in
-    record {
-      limit = entries_few (pairs_of c.keep.new.self) (cells.counts * cells.words) c.in_ok-keep.ensures.keeps.kept.apart
-          (λ key entry there.
-          (raised_noted cells (pairs_of c.keep.new.self) onto.key onto.round onto.location onto.counts c.requires.1.0
-          c.in_ok-keep.ensures.keeps.adds onward.there onward.round key entry there).0);
-    }
 
 pub returns-clause-held : goal.returns-clause-held
 returns-clause-held g c =

@@ -27,5 +27,5 @@ if_some (Some index) P all = all index refl
 
 pub returns-clause-found : goal.returns-clause-found
 returns-clause-found c =
-    if_some c.get_index_of.result (IsEntryOf c.args.key (pairs_of c.args.self.now))
-    (λ index is. entry_found c.args.key (pairs_of c.args.self.now) index (sym c.get_index_of.ensures.index ∙ is))
+    if_some c.index_of.result (IsEntryOf c.args.key (pairs_of c.args.self.now))
+    (λ index is. entry_found c.args.key (pairs_of c.args.self.now) index (c.index_of.ensures.at ∙ is))

@@ -4,7 +4,6 @@ use Rattle.std.proofs.Common.{◌≡◌, ℕ, ◌+◌, ◌-◌, ◌%◌, Some, r
 use Rattle.std.specs.Prelude.{slice_get}
 use Rattle.std.specs.Map.{values_of}
 use Rattle.std.specs.Vec.{with_item}
-use Rattle.indexmap.specs.IndexMap.{with_value_at}
 use Rattle.drum_bound.specs.declared.cells.entries.Entries.{Entries}
 use Rattle.drum_bound.specs.declared.key_hop.KeyHop.{KeyHop}
 use Rattle.drum_bound.specs.declared.worst.Worst.{Worst}
@@ -14,8 +13,8 @@ use Rattle.drum_bound.proofs.Entering.{entry_read, raised_keeps, stays_kept}
 use Rattle.drum_bound.proofs.InCellsLaws.{latest_of}
 use Rattle.drum_bound.proofs.cells.entries.Entries.raise.Goals as goal
 
-pub returns-then-time-was : goal.returns-then-time-was
-returns-then-time-was c =
+pub returns-then-time-was-clause-keeps : goal.returns-then-time-was-clause-keeps
+returns-then-time-was-clause-keeps c =
     let old = c.args.self.now in
     let was = c.index-table-index.result in
     stays_kept old c.args.key c.args.index was c.args.end.now.origin c.requires.there c.requires.kept
@@ -23,14 +22,13 @@ returns-then-time-was c =
     c.index-table-index.is) (latest_in c.args.end.now) c.args.index
     (omega (arith, c.if-time-was.true, c.clock.ensures))
 
-pub returns : goal.returns
-returns c = λ location counts.
+pub returns-clause-keeps : goal.returns-clause-keeps
+returns-clause-keeps c = λ location counts.
     let old = c.args.self.now in
     let was = c.index-table-index.result in
     let clock = c.args.end.now.clock in
-    let entry : Worst = record was { angle = c.angle.result; time = c.clock.result - old.angle } in
     let new : Entries = record old {
-      table = with_value_at old.table c.args.index entry;
+      table = c.put.new.self;
       origins = with_item old.origins c.args.index c.origin.result;
       near = c.args.index;
     } in
@@ -40,8 +38,8 @@ returns c = λ location counts.
     let now : old.angle + (c.clock.result - old.angle) ≡ clock = omega (arith, c.clock.ensures, c.requires.after) in
     subst (λ (origin : KeyHop). Keeps old c.args.key location counts (latest_of clock (Some origin)) new)
     c.origin.ensures
-    (raised_keeps old new c.args.key c.args.index clock was entry c.origin.result refl c.requires.there there refl
-    refl c.requires.kept refl refl refl
+    (raised_keeps old new c.args.key c.args.index clock was _ c.origin.result refl c.requires.there there
+    c.put.ensures.entries refl c.requires.kept refl refl refl
     (omega (arith, now, c.clock.ensures, c.clock.type_inv), c.angle.ensures.value ∙ ap (λ (n : ℕ). n % 50) (sym now))
     now (omega (arith, c.requires.onward, ap (λ (o : KeyHop). o.key) c.origin.ensures))
     (omega (arith, c.if-time-was.false, c.clock.ensures, c.requires.after)) location counts)
