@@ -8,11 +8,12 @@
 //! scan raises: `worst` (an entry of the table), `key_hop` (a hop of a key, by its number) and
 //! `latest` (what is kept at a key). `steps` is the ledger on which ends are counted, and
 //! `steps/end` has their one maker. `cells` is what is kept at all keys: an end of a hop is made
-//! there, and raises it. `cells/entries` is the map that is the table, and `cells/key_hasher` its
-//! hasher. `scan` takes each key in turn, and each of its hops. Of a finished scan `trace` makes
-//! the walk, followed back, with its passes, as visits of `drum_walks`. `analysing` has `analyse`,
-//! and `analysis` what that hands out. `bounding` has `bound`, which makes no walk: its contract is
-//! that no run which keeps to the notes takes longer, and that some walk takes as long.
+//! there, and raises it. `cells/entries` is the table, `cells/limited` the map in which it grows,
+//! and `cells/key_hasher` the hasher of that. `scan` takes each key in turn, and each of its hops.
+//! Of a finished scan `trace` makes the walk, followed back, with its passes, as visits of
+//! `drum_walks`. `analysing` has `analyse`, and `analysis` what that hands out. `bounding` has
+//! `bound`, which makes no walk: its contract is that no run which keeps to the notes takes longer,
+//! and that some walk takes as long.
 //!
 //! Definitions, in the order to read them, behind `Worst` of `drum_walks`, the longest time of a
 //! walk, and `Bounded` of `drum_flow`, that of runs: `Table` is what the table is, with its entries
@@ -22,16 +23,17 @@
 //! found, and a reader of the theorem's clauses needs only `row_in` of `RowOf`. `Digits`, `Keys`,
 //! `Scanned` and `TakenOf` are definitions. `EndOf`, `KeysOf`, `LeapOf`, `RecentOf` and `RoundOf`
 //! say what the code's types mean by them, and `OfCells` which cells an analysis is made of.
-//! `InEntries` says how the table that is raised holds what is kept at a key. `InCells` (what is
-//! kept at all keys), `SearchOf`, `ScanOf` and `ToEnd` say what is asked where an end is made.
+//! `Below` and `InLimited` say which entries the map may have, and `InEntries` how the table that
+//! is raised holds what is kept at a key. `InCells` (what is kept at all keys), `SearchOf`,
+//! `ScanOf` and `ToEnd` say what is asked where an end is made.
 //!
 //! Proofs. Laws of numbers of counts (`DigitsLaws`), of leaps that serve more hops (`Recents`), of
 //! keys (`KeyLaws`, `Onward`) and of rounds (`RoundLaws`). Laws of what is held, by entry
-//! (`Entering`, `EntryKeys`) and by key (`InCellsLaws`). Laws of the scan, step by step (`Raises`,
-//! `Scans`, `GoesOnto`, `GoingOn`, `Sought`, `KeysTaken`, `Halfway`). From the finished scan to
-//! walks (`Walked`, `Unpassed`), the bound (`Worsts`), the table (`Rows`, `RowSums`, and `RowsHeld`
-//! as it is handed out) with its ends (`EntryEnds`, `EntriesRaised`) and what arrives under it
-//! (`Unders`), the number of a walk's hops (`ShortWalks`), and the walk that is handed out
+//! (`Entering`, `EntryKeys`, `Limits`) and by key (`InCellsLaws`). Laws of the scan, step by step
+//! (`Raises`, `Scans`, `GoesOnto`, `GoingOn`, `Sought`, `KeysTaken`, `Halfway`). From the finished
+//! scan to walks (`Walked`, `Unpassed`), the bound (`Worsts`), the table (`Rows`, `RowSums`, and
+//! `RowsHeld` as it is handed out) with its ends (`EntryEnds`, `EntriesRaised`) and what arrives
+//! under it (`Unders`), the number of a walk's hops (`ShortWalks`), and the walk that is handed out
 //! (`Traces`). docs/THEOREM.md says what they add up to.
 #![tactic(auto)]
 

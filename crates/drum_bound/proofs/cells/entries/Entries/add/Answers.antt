@@ -1,8 +1,8 @@
-use Rattle.std.proofs.Common.{◌≡◌, ℕ, ◌+◌, ◌-◌, ◌%◌, Some, None, List, [], ◌∷◌, ◌++◌, ap, sym, ◌∙◌, subst, arith}
+use Rattle.std.proofs.Common.{◌≡◌, ℕ, ◌+◌, ◌-◌, ◌%◌, Some, List, [], ◌∷◌, ◌++◌, ap, sym, ◌∙◌, subst, arith}
 use Rattle.drum_bound.specs.declared.cells.entries.Entries.{Entries}
 use Rattle.drum_bound.specs.declared.key_hop.KeyHop.{KeyHop}
 use Rattle.drum_bound.specs.declared.worst.Worst.{Worst}
-use Rattle.drum_bound.specs.InEntries.{pairs_of, IsTimed, Keeps}
+use Rattle.drum_bound.specs.InEntries.{IsTimed, Keeps}
 use Rattle.drum_bound.proofs.Entering.{added_keeps}
 use Rattle.drum_bound.proofs.InCellsLaws.{latest_of}
 use Rattle.drum_bound.proofs.cells.entries.Entries.add.Goals as goal

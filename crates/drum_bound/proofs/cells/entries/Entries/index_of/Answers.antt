@@ -1,4 +1,4 @@
-use Rattle.std.proofs.Common.{◌≡◌, ℕ, ◌-◌, Option, Some, None, IfSome, refl, sym, ◌∙◌, arith}
+use Rattle.std.proofs.Common.{◌≡◌, ℕ, ◌-◌, Option, Some, None, IfSome, refl, ◌∙◌, arith}
 use Rattle.std.specs.Map.{keys_of}
 use Rattle.drum_bound.specs.InEntries.{pairs_of, IsEntryOf}
 use Rattle.drum_bound.proofs.Entering.{beyond_none, entry_found}

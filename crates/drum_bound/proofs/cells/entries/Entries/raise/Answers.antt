@@ -6,7 +6,6 @@ use Rattle.std.specs.Map.{values_of}
 use Rattle.std.specs.Vec.{with_item}
 use Rattle.drum_bound.specs.declared.cells.entries.Entries.{Entries}
 use Rattle.drum_bound.specs.declared.key_hop.KeyHop.{KeyHop}
-use Rattle.drum_bound.specs.declared.worst.Worst.{Worst}
 use Rattle.drum_bound.specs.EndOf.{latest_in}
 use Rattle.drum_bound.specs.InEntries.{pairs_of, Keeps}
 use Rattle.drum_bound.proofs.Entering.{entry_read, raised_keeps, stays_kept}

@@ -1,8 +1,7 @@
 -- Of Limited::add: one more entry, of a key that had none; or none, where there is no memory.
-use Rattle.std.proofs.Common.{◌≡◌, ℕ, ◌++◌, List, [], ◌∷◌, ◌∙◌, inl, inr}
+use Rattle.std.proofs.Common.{◌∙◌, inl, inr}
 use Rattle.std.specs.Prelude.{nat_eq}
 use Rattle.indexmap.proofs.CallerLemmas.{insert_entry-new}
-use Rattle.drum_bound.specs.declared.worst.Worst.{Worst}
 use Rattle.drum_bound.proofs.Limits.{AreLimited, either, limited_as, limited_more}
 use Rattle.drum_bound.proofs.cells.limited.Limited.add.Goals as goal
 
