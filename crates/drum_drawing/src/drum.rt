@@ -39,8 +39,8 @@ pub fn draw_rim(svg: &mut Svg) {
     }
 }
 
-/// Draws the heads, which stand still, where they are when the angle is 00, and an arrow the way the
-/// drum turns: the next angle comes by next.
+/// Draws the heads, which stand still, above angle 00, and an arrow the way the drum turns: the
+/// next angle comes by next.
 pub fn draw_heads(svg: &mut Svg) {
     draw!(svg: "<path " (Ink::Faint) " d='M0 -2412L-55 -2492H55Z'/>");
     draw!(svg: "<text " (Ink::Faint) " font-size='105' x='-290' y='-2522'>heads</text>");

@@ -130,8 +130,8 @@ impl<'a> Going<'a> {
         Ok(true)
     }
 
-    /// Whether the walk is drawn from a piece on that the way hasn't come to, and that isn't in this
-    /// one; at that piece the way has come to it.
+    /// Whether the walk is drawn from a piece on that the way hasn't come to yet, and that isn't in
+    /// this one. At that piece the way has come to it.
     fn is_before_start(&mut self, number: usize) -> bool {
         match self.start.take() {
             None => false,

@@ -51,8 +51,8 @@ fn extent_of(walk: Walk, rows: &Rows) -> Extent {
     }
 }
 
-/// What is drawn of a walk from its beginning; or, where it comes to the location at which it spends
-/// most later than that, from the rounds on in which it does so.
+/// What is drawn of a walk from its beginning; or, where it comes later than that to the location
+/// at which it spends most, from the rounds on in which it does so.
 fn shown_of(
     alloc: Global,
     walk: Walk,

@@ -10,7 +10,7 @@ use std::alloc::{AllocError, Global};
 pub struct Start {
     /// Its number.
     at: usize,
-    /// Of each piece whether it is that hop, or has it in it, for which the walk is drawn from here.
+    /// Of each piece whether it is, or has in it, the hop for which the walk is drawn from here.
     has_hop: Vec<bool>,
 }
 
