@@ -3,8 +3,8 @@
 ghost use Rattle.std.specs.Prelude.{◌≡◌, [], List, flat_map, IfOk, IfSome, IsTrue};
 ghost use Rattle.drum_flow.specs.SettingOf.{setting};
 ghost use Rattle.drum_flow.specs.Walk as walks;
-ghost use Rattle.drum_walks.specs.Pieces.{repeated, spelled_at, spelled_behind, spelled_by};
-ghost use Rattle.drum_walks.specs.Pieces.{PlacedHop};
+ghost use Rattle.drum_walks.specs.Pieces.{repeated, spelled, spelled_at, spelled_behind};
+ghost use Rattle.drum_walks.specs.Pieces.{spelled_by, PlacedHop};
 ghost use Rattle.drum_rounds.specs.InRounds.{angle_of, lasting_of, often_of, pieces_of, passes_in};
 ghost use Rattle.drum_rounds.specs.InRounds.{total_of, AreTold, IsInRoundsOf, SpellOut};
 ghost use Rattle.drum_rounds.specs.Stretch.{span_of, AreStretches, ComeTo, IsFromStart};
@@ -31,9 +31,11 @@ fn first_of<'a>(stretches: &'a [Stretch], pieces: &[usize]) -> Option<&'a Stretc
 
 /// The walk without a hop: a row of none.
 fn no_walk(alloc: Global, marks: &[Mark]) -> Result<InRounds, AllocError>
-    ensures { IfOk result (λ walk. (g : walks.Setting) → g.notes.marks ≡ marks.now
+    ensures right { IfOk result (λ walk. (g : walks.Setting) → g.notes.marks ≡ marks.now
         → SpellOut g (angle_of walk) (pieces_of walk) (passes_in walk) (total_of walk)
         × AreTold g.times (pieces_of walk) (lasting_of walk) (often_of walk)) }
+    ensures empty { IfOk result (λ walk. spelled (pieces_of walk) ≡ []) }
+    ensures no_time { IfOk result (λ walk. total_of walk ≡ 0) }
 {
     Ok(InRounds {
         angle: 0,
@@ -46,10 +48,12 @@ fn no_walk(alloc: Global, marks: &[Mark]) -> Result<InRounds, AllocError>
 }
 
 impl Setting<'_> {
-    /// The walk without a hop.
+    /// The walk without a hop, which takes no word time.
     pub fn without_hop(&self, alloc: Global) -> Result<InRounds, AllocError>
-        ensures { IfOk result
+        ensures right { IfOk result
             (IsInRoundsOf self.now.deck.now self.now.times.now self.now.notes.now) }
+        ensures empty { IfOk result (λ walk. spelled (pieces_of walk) ≡ []) }
+        ensures no_time { IfOk result (λ walk. total_of walk ≡ 0) }
     {
         no_walk(alloc, self.notes.marks())
     }
@@ -156,10 +160,12 @@ impl Setting<'_> {
         are_within(marks, &whole.changes) && openings::ask_nothing(&whole.openings)
     }
 
-    /// The walk that the pieces spell out; `None` where that is none.
+    /// The walk that the pieces spell out, by these very pieces; `None` where they spell out none.
     pub fn weigh(&self, alloc: Global, pieces: Vec<Piece>) -> Result<Option<InRounds>, AllocError>
-        ensures { IfOk result (λ made. IfSome made
+        ensures right { IfOk result (λ made. IfSome made
             (IsInRoundsOf self.now.deck.now self.now.times.now self.now.notes.now)) }
+        ensures same { IfOk result (λ made. IfSome made (λ walk.
+            pieces_of walk ≡ pieces.items)) }
     {
         let Some(stretches) = self.stretches(alloc, &pieces)? else {
             return Ok(None);

@@ -11,8 +11,8 @@ use Rattle.drum_rounds.specs.Stretch.{AreStretches}
 use Rattle.drum_rounds.proofs.Wholes.{whole_walk}
 use Rattle.drum_rounds.proofs.setting.Setting.weigh.Goals as goal
 
-pub returns : goal.returns
-returns c =
+pub returns-clause-right : goal.returns-clause-right
+returns-clause-right c =
     let own = c.args.self.now in
     let g = setting own.deck.now own.times.now own.notes.now in
     let pieces = c.args.pieces.items in
