@@ -137,10 +137,10 @@ within_by marks (Some passed) counts within = within_passed marks passed 0 marks
 -- a hop of a place
 module _ (g : Setting) (place angle : ℕ) (ins : Instruction) (on_drum : angle < 50) (took : ℕ)
     (openings : List Opening) where
-  abbrev one_hop : Way → PlacedHop
+  abbrev pub one_hop : Way → PlacedHop
   one_hop way = record { place = place; angle = angle; hop = record { ins = ins; way = way } }
 
-  abbrev one_span : Way → Span
+  abbrev pub one_span : Way → Span
   one_span way = record {
     from = place;
     angle = angle;
@@ -157,7 +157,7 @@ module _ (g : Setting) (place angle : ℕ) (ins : Instruction) (on_drum : angle 
       omega (arith, leap_time g.times place ins way angle (start + time) on_drum at, is)
 
   -- it is one of its location
-  timed : (way : Way) → Contains (hops g.loads g.notes place) (record { ins = ins; way = way }) → (start time : ℕ)
+  pub timed : (way : Way) → Contains (hops g.loads g.notes place) (record { ins = ins; way = way }) → (start time : ℕ)
       → IsTimed g.times start (laid_one g start time (one_hop way)) (op_of ins.op)
   timed way has start time =
       let may = hop_may_end g.loads g.notes place ins way has in
@@ -171,7 +171,7 @@ module _ (g : Setting) (place angle : ℕ) (ins : Instruction) (on_drum : angle 
         ended = longest g.times place ins way (start + time) - start;
       }) (op_of ins.op)) (sym may.1) (longest_is_timed g.times place ins way start time may.0 may.1)
 
-  hop_passes : (way : Way) (index : ℕ) (change : Change) → slice_get (one_span way).changes index ≡ Some change
+  pub hop_passes : (way : Way) (index : ℕ) (change : Change) → slice_get (one_span way).changes index ≡ Some change
       → passes_by change ≡ passes_of g.notes.marks index (edges_placed (one_hop way ∷ []))
   hop_passes early index change is =
       passes_one g.notes.marks None 0 g.notes.marks index index change (omega arith) is

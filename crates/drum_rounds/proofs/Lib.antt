@@ -3,6 +3,7 @@ pub mod CountLaws
 pub mod HopLaws
 pub mod LaidLaws
 pub mod OftenLaws
+pub mod OneHops
 pub mod OpeningLaws
 pub mod OrderLaws
 pub mod SpelledLaws

@@ -69,7 +69,7 @@ stretches_more g pieces k piece stretches stretch less is are come =
     (spelled_by (spelled_behind [] (take k pieces)) piece) stretch are come)
 
 -- what is told of each of a list by its index
-told_at : {X : Type 0} (f : X → ℕ) (xs : List X) (told : ℕ → ℕ) (first : ℕ)
+pub told_at : {X : Type 0} (f : X → ℕ) (xs : List X) (told : ℕ → ℕ) (first : ℕ)
     → ((index : ℕ) (x : X) → slice_get xs index ≡ Some x → f x ≡ told (first + index))
     → (index : ℕ) → index < length xs → slice_index (map f xs) index ≡ told (first + index)
 told_at {X = X} f [] told first each index less = absurd (omega (arith, less))

@@ -1,6 +1,8 @@
 pub mod Change
+pub mod FirstHop
 pub mod InRounds
 pub mod OftenOf
+pub mod OneHop
 pub mod Opening
 pub mod Order
 pub mod OrderOf

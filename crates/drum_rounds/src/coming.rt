@@ -30,7 +30,7 @@ fn next_by(way: Way) -> Option<Location>
 }
 
 /// The index of the mark that a hop of a location passes by this way.
-fn mark_by(marks: &[Mark], from: Location, way: Way) -> Option<usize>
+pub fn mark_by(marks: &[Mark], from: Location, way: Way) -> Option<usize>
     ensures { result ≡ mark_by marks.now from.number (seen_way way) }
 {
     match way {

@@ -7,17 +7,20 @@
 //! stretch behind another, and of rounds of one. `order` tells whether pieces are numbered as a
 //! walk comes to their ends, and `piece_totals`, by `often`, how long each takes and how often it
 //! comes. By these `weighing` tells the walk that pieces spell out, an `in_rounds`, or that they
-//! spell out none; `setting` has the deck, the timing table and the notes.
+//! spell out none; `setting` has the deck, the timing table and the notes. `one_hop` has the
+//! longest walk of one hop.
 //!
 //! Definitions, in the order to read them, behind `Pieces` of `drum_walks`: `Order` (how pieces are
-//! numbered) and `InRounds` (when a walk in rounds is right). The others say what the code's types
-//! mean by these: `Change`, `Opening`, `Stretch`, `OrderOf` and `OftenOf`.
+//! numbered), `InRounds` (when a walk in rounds is right) and `OneHop` (that none of one hop takes
+//! longer). The others say what the code's types mean by these: `Change`, `Opening`, `Stretch`,
+//! `OrderOf` and `OftenOf`.
 //!
 //! Proofs. `CountLaws` has what changes do to counts, `OpeningLaws` what openings make of what is
 //! open, `LaidLaws` hops that are laid one after the other, each as long as it can be, and
 //! `HopLaws` which hops a location has. `Comings` shows what stretches come to, one by one,
 //! `SpelledLaws` what pieces spell out, and `Wholes` that the last is a walk. `OrderLaws` and
-//! `OftenLaws` go through the pieces, forwards and backwards.
+//! `OftenLaws` go through the pieces, forwards and backwards. `OneHops` has which hops are walks of
+//! their own, and that none takes longer than from the angle behind the start's.
 #![tactic(auto)]
 
 mod change;
@@ -25,6 +28,7 @@ mod changes;
 mod coming;
 mod in_rounds;
 mod often;
+mod one_hop;
 mod opening;
 mod openings;
 mod order;
