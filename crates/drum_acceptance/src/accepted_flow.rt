@@ -71,6 +71,7 @@ impl<'a> AcceptedFlow<'a> {
             (executed_in accepted.flow) (in_order accepted)) }
         ensures refused { IfErr result (IsRefusal (loads_in deck.now) notes.now
             (start_in deck.now)) }
+        ensures has_calls { ¬ (notes.now.calls ≡ []) → result ≡ Err Refusal.HasCalls }
     {
         if !notes.calls().is_empty() {
             return Err(Refusal::HasCalls);
