@@ -1,5 +1,5 @@
 -- What a finished scan shows.
-use Rattle.std.proofs.Common.{◌≡◌, ℕ, ◌+◌, ◌-◌, ◌*◌, ◌<◌, ◌≤◌, List, length, map, ap, sym, ◌∙◌}
+use Rattle.std.proofs.Common.{◌≡◌, ℕ, ◌-◌, ◌*◌, ◌<◌, ◌≤◌, List, length, map, ap, sym, ◌∙◌}
 use Rattle.std.proofs.Common.{subst, arith, mul_comm}
 use Rattle.std.proofs.Math.Nat.{mul_assoc}
 use Rattle.std.proofs.lemmas.List.{length-map}
@@ -14,13 +14,15 @@ use Rattle.drum_bound.specs.declared.analysis.Analysis.{Analysis}
 use Rattle.drum_bound.specs.declared.cells.Cells.{Cells}
 use Rattle.drum_bound.specs.declared.keys.Keys.{Keys}
 use Rattle.drum_bound.specs.declared.latest.Latest.{Latest}
+use Rattle.drum_bound.specs.declared.scan.found.Found.{Found}
 use Rattle.drum_bound.specs.declared.scan.Scan.{Scan}
+use Rattle.drum_bound.specs.FoundOf.{found_bound}
 use Rattle.drum_bound.specs.declared.worst.Worst.{Worst}
 use Rattle.drum_bound.specs.AnalysisOf.{IsAnalysis, ArePasses, angle_of, bound_of, counts_in_all}
 use Rattle.drum_bound.specs.AnalysisOf.{passed_of, rows_of, turns_of, visits_of, words_of}
 use Rattle.drum_bound.proofs.EntriesRaised.{are_raised}
 use Rattle.drum_bound.proofs.EntryEnds.{ends_of, are_ends, as_many_ends}
-use Rattle.drum_bound.specs.Counted.{CountsTableOf, turns_in}
+use Rattle.drum_bound.specs.Counted.{HasFound, turns_in}
 use Rattle.drum_bound.specs.InEntries.{pairs_of}
 use Rattle.drum_bound.specs.Keys.{keys_of, IsOrdered}
 use Rattle.drum_bound.specs.KeysOf.{setting_of}
@@ -37,12 +39,12 @@ use Rattle.drum_bound.specs.InCells.{kept_in}
 use Rattle.drum_bound.proofs.Worsts.{is_worst}
 
 -- What a finished scan and its walk are, of these keys and this timing table.
-pub record IsFound (keys : Keys) (times : Times) (cells : Cells) (visits : List Visited) : Type 0 where
+pub record IsFound (keys : Keys) (times : Times) (cells : Cells) (made : ℕ) (visits : List Visited) : Type 0 where
   pub are : AreCells (setting_of keys.accepted.now times) (in_order keys.accepted.now) cells
   pub scanned : Scanned (setting_of keys.accepted.now times) (in_order keys.accepted.now)
       (keys_of (setting_of keys.accepted.now times).notes.marks (in_order keys.accepted.now))
       (keys_of (setting_of keys.accepted.now times).notes.marks (in_order keys.accepted.now)) (kept_in cells) cells.last
-  pub turns : cells.made
+  pub turns : made
       ≡ turns_below (setting_of keys.accepted.now times) (in_order keys.accepted.now) (kept_in cells)
       (keys_of (setting_of keys.accepted.now times).notes.marks (in_order keys.accepted.now))
   pub walk : IsWalkOf (setting_of keys.accepted.now times) (start_angle (setting_of keys.accepted.now times).start)
@@ -51,17 +53,17 @@ pub record IsFound (keys : Keys) (times : Times) (cells : Cells) (visits : List 
       visits
 
 -- They are of the keys and the timing table that the scan was given.
-pub is_found : (keys : Keys) (times : Times) (scan : Scan) (visits : List Visited) → scan.keys.now ≡ keys
+pub is_found : {L : Type 0} (keys : Keys) (times : Times) (scan : Scan L) (visits : List Visited) → scan.keys.now ≡ keys
     → scan.times.now ≡ times → IsDone scan
     → IsWalkOf (setting_in scan) (start_angle (setting_in scan).start)
     (scan.cells.last.clock - start_angle (setting_in scan).start) visits
     → AreLongest (setting_in scan) (start_angle (setting_in scan).start) visits
-    → IsFound keys times scan.cells visits
+    → IsFound keys times scan.cells scan.steps visits
 is_found keys times scan visits same_keys same_times done walk longest =
-    let own : IsFound scan.keys.now scan.times.now scan.cells visits =
+    let own : IsFound scan.keys.now scan.times.now scan.cells scan.steps visits =
     record { are = done.cells; scanned = done.scanned; turns = done.turns; walk = walk; longest = longest } in
-    subst (λ (one : Times). IsFound keys one scan.cells visits) same_times
-    (subst (λ (one : Keys). IsFound one scan.times.now scan.cells visits) same_keys own)
+    subst (λ (one : Times). IsFound keys one scan.cells scan.steps visits) same_times
+    (subst (λ (one : Keys). IsFound one scan.times.now scan.cells scan.steps visits) same_keys own)
 
 -- the latest end of all is no earlier than the start
 pub last_after : (g : Setting) (order : List ℕ) (cells : Cells) → AreCells g order cells
@@ -98,22 +100,48 @@ module _ (g : Setting) (order : List ℕ) (cells : Cells) (ordered : IsOrdered g
   rows_table = is_table g order (kept_in cells) cells.last ordered starts s (rows_in cells) are_rows
 
   -- and as many ends were made as they have hops.
-  module _ (made : cells.made ≡ turns_below g order (kept_in cells) (keys_of g.notes.marks order)) where
-    rows_turns : cells.made ≡ turns_in g (rows_in cells)
+  module _ (made : ℕ) (all : made ≡ turns_below g order (kept_in cells) (keys_of g.notes.marks order)) where
+    rows_turns : made ≡ turns_in g (rows_in cells)
     rows_turns =
-        made
+        all
         ∙ sym (rows_sum g order (kept_in cells) ordered.different (keys_of g.notes.marks order) (rows_in cells)
         (omega arith) are_rows)
 
-    -- So a ledger that counted the ends has counted these.
-    pub has_counted : (before after : ℕ) → after ≡ before + cells.made → CountsTableOf g (length order) before after
-    has_counted before after counted = record {
-      rows = rows_in cells;
-      table = rows_table;
-      few = subst (λ (words : ℕ). length (rows_in cells) ≤ words * counts_of g.notes.marks) are.words
-          (subst (λ (counts : ℕ). length (rows_in cells) ≤ cells.words * counts) are.counts (few_rows cells));
-      turns = counted ∙ ap (λ (n : ℕ). before + n) rows_turns;
+  few_in : length (rows_in cells) ≤ length order * counts_of g.notes.marks
+  few_in =
+      subst (λ (words : ℕ). length (rows_in cells) ≤ words * counts_of g.notes.marks) are.words
+      (subst (λ (counts : ℕ). length (rows_in cells) ≤ cells.words * counts) are.counts (few_rows cells))
+
+-- So what a finished scan has found is right.
+pub has_found : {L : Type 0} (g : Setting) (order : List ℕ) (found : Found L)
+    → IsOrdered g.loads g.notes g.start order → g.start < 2000 → AreCells g order found.cells
+    → Scanned g order (keys_of g.notes.marks order) (keys_of g.notes.marks order) (kept_in found.cells)
+    found.cells.last
+    → found.steps ≡ turns_below g order (kept_in found.cells) (keys_of g.notes.marks order)
+    → HasFound g (length order) found
+has_found g order found ordered starts are s all =
+    let cells = found.cells in
+    let bound : found_bound found ≡ cells.last.clock - start_angle g.start =
+    ap (λ (n : ℕ). cells.last.clock - n) are.angle in
+    record {
+      worst = subst (IsWorst g) (sym bound) (is_worst g order (kept_in cells) cells.last ordered starts s);
+      below = omega (arith, bound, s.last_near, ordered.few);
+      table = rows_table g order cells ordered starts are s;
+      few = few_in g order cells ordered starts are s;
+      turns = rows_turns g order cells ordered starts are s found.steps all;
     }
+
+-- the same, of the cells and the number of ends that it was made of
+pub found_in : {L : Type 0} (g : Setting) (order : List ℕ) (cells : Cells) (made : ℕ) (found : Found L)
+    → found.cells ≡ cells → found.steps ≡ made
+    → IsOrdered g.loads g.notes g.start order → g.start < 2000 → AreCells g order cells
+    → Scanned g order (keys_of g.notes.marks order) (keys_of g.notes.marks order) (kept_in cells) cells.last
+    → made ≡ turns_below g order (kept_in cells) (keys_of g.notes.marks order) → HasFound g (length order) found
+found_in g order cells made found same count ordered starts are s all =
+    has_found g order found ordered starts (subst (AreCells g order) (sym same) are)
+    (subst (λ (one : Cells). Scanned g order (keys_of g.notes.marks order) (keys_of g.notes.marks order) (kept_in one)
+    one.last) (sym same) s)
+    (count ∙ all ∙ ap (λ (one : Cells). turns_below g order (kept_in one) (keys_of g.notes.marks order)) (sym same))
 
 -- with each angle there could be more
 fifty : (words counts rows : ℕ) → rows ≤ words * counts → rows ≤ words * 50 * counts
@@ -121,15 +149,16 @@ fifty words counts rows few =
     omega (arith, few, ap (λ (n : ℕ). n * counts) (mul_comm words 50), mul_assoc 50 words counts)
 
 -- An analysis of finished cells, and of their walk, is right.
-pub is_analysis : (g : Setting) (order : List ℕ) (cells : Cells) (analysis : Analysis) → IsOfCells cells analysis
+pub is_analysis : (g : Setting) (order : List ℕ) (cells : Cells) (made : ℕ) (analysis : Analysis)
+    → IsOfCells cells made analysis
     → IsOrdered g.loads g.notes g.start order → g.start < 2000 → AreCells g order cells
     → Scanned g order (keys_of g.notes.marks order) (keys_of g.notes.marks order) (kept_in cells) cells.last
-    → cells.made ≡ turns_below g order (kept_in cells) (keys_of g.notes.marks order)
+    → made ≡ turns_below g order (kept_in cells) (keys_of g.notes.marks order)
     → IsWalkOf g (start_angle g.start) (cells.last.clock - start_angle g.start) (visits_of analysis)
     → AreLongest g (start_angle g.start) (visits_of analysis)
     → ArePasses g.notes.marks (visits_of analysis) (passed_of analysis)
     → IsAnalysis g analysis
-is_analysis g order cells analysis is_of ordered starts are s made walk longest passed =
+is_analysis g order cells made analysis is_of ordered starts are s all walk longest passed =
     let last : Latest = cells.last in
     let rows : List Row = rows_of analysis in
     let same : rows_in cells ≡ rows = ap (map row_in) (sym is_of.table) in
@@ -145,7 +174,7 @@ is_analysis g order cells analysis is_of ordered starts are s made walk longest 
     let few : length rows ≤ words_of analysis * counts_in_all analysis =
     omega (arith, few_rows cells, ap (λ (all : List Row). length all) same, product_in) in
     let turns : turns_of analysis ≡ turns_in g rows =
-    is_of.turns ∙ rows_turns g order cells ordered starts are s made ∙ ap (turns_in g) same in
+    is_of.turns ∙ rows_turns g order cells ordered starts are s made all ∙ ap (turns_in g) same in
     let table : IsTable g rows = subst (IsTable g) same (rows_table g order cells ordered starts are s) in
     record {
       worst = subst (IsWorst g) (sym bound) (is_worst g order (kept_in cells) last ordered starts s);

@@ -20,23 +20,23 @@ starts_there : (deck : Deck) → start_in deck < 2000
 starts_there deck = deck.on_drum
 
 -- and so does what its walks are in
-pub starts_on_drum : (scan : Scan) → (setting_in scan).start < 2000
+pub starts_on_drum : {L : Type 0} (scan : Scan L) → (setting_in scan).start < 2000
 starts_on_drum scan = starts_there (deck_of scan.keys.now.accepted.now.flow)
 
 -- the order of its locations is one that keys can be made of
-pub is_ordered : (scan : Scan) → IsDone scan
+pub is_ordered : {L : Type 0} (scan : Scan L) → IsDone scan
     → IsOrdered (setting_in scan).loads (setting_in scan).notes (setting_in scan).start (order_of scan)
 is_ordered scan done = done.keys.ordered.0
 
 -- what it keeps is no earlier than the start
-pub kept_after : (scan : Scan) (key : ℕ) (kept : Latest) → IsDone scan → cell_at (kept_in scan.cells) key ≡ Some kept
+pub kept_after : {L : Type 0} (scan : Scan L) (key : ℕ) (kept : Latest) → IsDone scan → cell_at (kept_in scan.cells) key ≡ Some kept
     → start_angle (setting_in scan).start ≤ kept.clock
 kept_after scan key kept done there =
     not_before (setting_in scan) (order_of scan) (kept_in scan.cells) scan.cells.last (is_ordered scan done)
     (starts_on_drum scan) done.scanned key kept there
 
 -- an end of a hop comes soon behind what its key keeps
-pub ends_soon : (scan : Scan) (origin : KeyHop) (begin : Latest) (clock : ℕ)
+pub ends_soon : {L : Type 0} (scan : Scan L) (origin : KeyHop) (begin : Latest) (clock : ℕ)
     → IsEndOf (setting_in scan) (order_of scan) (size_in scan) (kept_in scan.cells) origin clock
     → cell_at (kept_in scan.cells) origin.key ≡ Some begin → clock ≤ begin.clock + longest_step
 ends_soon scan origin begin clock end there =

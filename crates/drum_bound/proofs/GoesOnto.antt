@@ -18,7 +18,7 @@ use Rattle.drum_bound.specs.InCells.{IsOnward}
 use Rattle.drum_bound.specs.Keys.{counts_at, keys_of, place_at, IsKey}
 use Rattle.drum_bound.specs.RoundOf.{IsCounted, counted_after}
 use Rattle.drum_bound.specs.RowOf.{counts_number}
-use Rattle.drum_bound.specs.ScanOf.{setting_in, order_of, IsReady}
+use Rattle.drum_bound.specs.ScanOf.{HasRound, setting_in, order_of, IsReady}
 use Rattle.drum_bound.specs.Table.{number_of}
 use Rattle.drum_bound.proofs.GoingOn.{edge_of}
 use Rattle.drum_bound.proofs.KeyLaws.{counts_within}
@@ -27,8 +27,9 @@ use Rattle.drum_bound.proofs.Onward.{leads_on}
 use Rattle.drum_bound.proofs.RoundLaws.{IsLed, led_key, mark_inside, round_leads}
 use Rattle.drum_bound.proofs.RowsHeld.{cells_size}
 
-module _ (scan : Scan) (round : Round) (search : InstructionSearch) (number : ℕ) (leap : Leap) (next : ℕ)
-    (ready : IsReady scan round search number leap) (goes : seen_way leap.hop.way ≡ to next) where
+module _ {L : Type 0} (scan : Scan L) (round : Round) (search : InstructionSearch) (number : ℕ) (leap : Leap)
+    (next : ℕ) (ready : IsReady scan search number leap) (has : HasRound scan search.key round)
+    (goes : seen_way leap.hop.way ≡ to next) where
   abbrev marks : List Mark
   marks = (setting_in scan).notes.marks
 
@@ -43,7 +44,7 @@ module _ (scan : Scan) (round : Round) (search : InstructionSearch) (number : �
       (counted_after round leap.mark)
   led =
       round_leads scan.keys.now.accepted.now (search.key / length order) (place_at order search.key) next round
-      leap.mark ready.round
+      leap.mark has
       (counts_within marks order search.key (omega (arith, ready.below, ready.keys.size)))
       (ready.leap.onto next goes).1
 
@@ -90,7 +91,7 @@ module _ (scan : Scan) (round : Round) (search : InstructionSearch) (number : �
         ∙ ap (λ (f : ℕ). (f + leap.index) / n) first
         ∙ div-mul-add counted.round n leap.index (slice_get_within order leap.index next (ready.leap.onto next goes).0)
 
-    pub onward : (location : Location) → IsOnward scan.cells search (record {
+    pub onward : (location : Location) → IsOnward scan.cells search.key (record {
       key = counted.first + leap.index;
       round = counted.round;
       location = location;

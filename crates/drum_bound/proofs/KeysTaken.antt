@@ -42,16 +42,16 @@ turns_few g order cells (suc key) sound =
     omega (arith, turns_few g order cells key sound, turns_few_at g order key (cell_at cells key) sound)
 
 -- the hops of a key
-abbrev pub hops_at : Scan → ℕ → List Hop
+abbrev pub hops_at : {L : Type 0} → Scan L → ℕ → List Hop
 hops_at scan key = hops (setting_in scan).loads (setting_in scan).notes (place_at (order_of scan) key)
 
 -- a hop that has a number among them is one of them
-pub hop_among : (scan : Scan) (key number : ℕ) (hop : Hop) → slice_get (hops_at scan key) number ≡ Some hop
+pub hop_among : {L : Type 0} (scan : Scan L) (key number : ℕ) (hop : Hop) → slice_get (hops_at scan key) number ≡ Some hop
     → Contains (hops_at scan key) hop
 hop_among scan key number hop at = contains_from_get (hops_at scan key) number hop at
 
 -- a key at which nothing is kept needs no taking
-pub skipped : (scan : Scan) (key : ℕ) → IsScanned scan key → cell_at (kept_in scan.cells) key ≡ None
+pub skipped : {L : Type 0} (scan : Scan L) (key : ℕ) → IsScanned scan key → cell_at (kept_in scan.cells) key ≡ None
     → IsScanned scan (key + 1)
 skipped scan key is none =
     let next : suc key ≡ key + 1 = omega arith in
@@ -64,7 +64,7 @@ skipped scan key is none =
     })
 
 -- all hops of a key at which something is kept are left
-pub opened : (scan : Scan) (key : ℕ) (kept : Latest) (left : List Hop) → IsScanned scan key
+pub opened : {L : Type 0} (scan : Scan L) (key : ℕ) (kept : Latest) (left : List Hop) → IsScanned scan key
     → cell_at (kept_in scan.cells) key ≡ Some kept → left ≡ hops_at scan key
     → Taking (setting_in scan) (order_of scan) key kept.clock left (kept_in scan.cells) scan.cells.last
 opened scan key kept left is there all =
@@ -73,13 +73,13 @@ opened scan key kept left is there all =
     (open_key (setting_in scan) (order_of scan) key kept (kept_in scan.cells) scan.cells.last there is.scanned)
 
 -- clocks and turns are far from their limits
-pub early_clock : (scan : Scan) (key : ℕ) (kept : Latest) → IsScanned scan key → key < scan.keys.now.size
+pub early_clock : {L : Type 0} (scan : Scan L) (key : ℕ) (kept : Latest) → IsScanned scan key → key < scan.keys.now.size
     → cell_at (kept_in scan.cells) key ≡ Some kept → kept.clock ≤ 2305843009213693952
 early_clock scan key kept is below there =
     omega (arith, is.scanned.near key kept there, below, is.keys.size, is.keys.ordered.0.few)
 
-pub few_turns : (scan : Scan) (key count left : ℕ) → IsScanned scan key → key < scan.keys.now.size
-    → count + left ≡ scan.cells.made + length (hops_at scan key) → count < 4611686018427387904
+pub few_turns : {L : Type 0} (scan : Scan L) (key count left : ℕ) → IsScanned scan key → key < scan.keys.now.size
+    → count + left ≡ scan.steps + length (hops_at scan key) → count < 4611686018427387904
 few_turns scan key count left is below so_far =
     omega (
       arith,
@@ -93,9 +93,9 @@ few_turns scan key count left is below so_far =
     )
 
 -- cells where nothing that is held changes
-pub cells_stopped : (g : Setting) (order : List ℕ) (cells : Cells) (last : Latest) (made : ℕ) → AreCells g order cells
-    → AreCells g order (record cells { last = last; made = made })
-cells_stopped g order cells last made are = record {
+pub cells_stopped : (g : Setting) (order : List ℕ) (cells : Cells) (last : Latest) → AreCells g order cells
+    → AreCells g order (record cells { last = last })
+cells_stopped g order cells last are = record {
   held = record {
     kept = are.held.kept;
     rounds = are.held.rounds;
@@ -109,17 +109,18 @@ cells_stopped g order cells last made are = record {
 }
 
 -- no hop of the key is left
-pub closed : (b : Scan) (cells : Cells) (key : ℕ) (kept : Latest) → IsScanned b key
+pub closed : {L : Type 0} (b : Scan L) (cells : Cells) (made key : ℕ) (kept : Latest) → IsScanned b key
     → cell_at (kept_in b.cells) key ≡ Some kept
     → AreCells (setting_in b) (order_of b) cells
     → Taking (setting_in b) (order_of b) key kept.clock [] (kept_in cells) cells.last
-    → cells.made ≡ b.cells.made + length (hops_at b key)
-    → IsAgreed key (kept_in b.cells) (kept_in cells) → IsScanned (record b { cells = cells }) (key + 1)
-closed b cells key kept is there are taking count agreed =
+    → made ≡ b.steps + length (hops_at b key)
+    → IsAgreed key (kept_in b.cells) (kept_in cells)
+    → IsScanned (record b { cells = cells; steps = made }) (key + 1)
+closed b cells made key kept is there are taking count agreed =
     let next : suc key ≡ key + 1 = omega arith in
     let g = setting_in b in
     let order = order_of b in
-    let turns : cells.made ≡ turns_below g order (kept_in cells) (suc key) =
+    let turns : made ≡ turns_below g order (kept_in cells) (suc key) =
     omega (
       arith,
       count,
@@ -127,7 +128,7 @@ closed b cells key kept is there are taking count agreed =
       turns_agree g order (kept_in b.cells) (kept_in cells) key (λ other below. agreed other (omega (arith, below))),
       ap (turns_at g order key) (agreed key (omega arith) ∙ there),
     ) in
-    subst (IsScanned (record b { cells = cells })) next
+    subst (IsScanned (record b { cells = cells; steps = made })) next
     (record {
       keys = is.keys;
       leaps = is.leaps;
@@ -137,7 +138,7 @@ closed b cells key kept is there are taking count agreed =
     })
 
 -- keys at which nothing is kept need no taking
-pub skipped_all : (scan : Scan) (first more : ℕ) → IsScanned scan first
+pub skipped_all : {L : Type 0} (scan : Scan L) (first more : ℕ) → IsScanned scan first
     → ((key : ℕ) → first ≤ key → key < first + more → cell_at (kept_in scan.cells) key ≡ None)
     → IsScanned scan (first + more)
 skipped_all scan first zero is none = let same : first ≡ first + 0 = omega arith in subst (IsScanned scan) same is

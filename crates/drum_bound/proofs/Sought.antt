@@ -1,5 +1,5 @@
 -- What is known of the end of a hop that is to be taken.
-use Rattle.std.proofs.Common.{◌≡◌, ℕ, ◌+◌, ◌%◌, Some, refl, ap, sym, subst, arith}
+use Rattle.std.proofs.Common.{◌≡◌, ℕ, ◌%◌, ◌<◌, ◌≤◌, Some, refl, ap, sym, subst, arith}
 use Rattle.std.specs.Prelude.{slice_get}
 use Rattle.std.proofs.lemmas.Option.{slice_get_within}
 use Rattle.drum_machine.specs.WaysLeft.{seen_way}
@@ -7,24 +7,36 @@ use Rattle.drum_flow.specs.Hops.{hops}
 use Rattle.drum_flow.specs.Seen.{seen_hop}
 use Rattle.drum_flow.specs.Walk.{Setting}
 use Rattle.drum_bound.specs.declared.leap.Leap.{Leap}
-use Rattle.drum_bound.specs.declared.round.Round.{Round}
 use Rattle.drum_bound.specs.declared.scan.Scan.{Scan}
 use Rattle.drum_bound.specs.declared.instruction_search.InstructionSearch.{InstructionSearch}
-use Rattle.drum_bound.specs.InCells.{kept_in}
 use Rattle.drum_bound.specs.Keys.{place_at}
 use Rattle.drum_bound.specs.LeapOf.{TakesLongest, leap_hop}
 use Rattle.drum_flow.specs.Longest.{longest}
-use Rattle.drum_bound.specs.ScanOf.{setting_in, order_of, AreCells, IsReady}
-use Rattle.drum_bound.specs.Scanned.{turns_below}
-use Rattle.drum_bound.specs.SearchOf.{CanEnd, end_sought, hop_sought}
-use Rattle.drum_bound.specs.ToEnd.{IsToEnd}
+use Rattle.drum_flow.specs.Profile.{MayEnd}
+use Rattle.drum_rotation.specs.Available.{is_available}
+use Rattle.drum_rotation.specs.Moment.{first}
+use Rattle.drum_bound.specs.ScanOf.{setting_in, order_of, IsReady}
+use Rattle.drum_bound.specs.SearchOf.{end_sought, hop_sought}
 use Rattle.drum_bound.proofs.FewHops.{few_hops}
+use Rattle.drum_bound.proofs.InCellsLaws.{clock_after}
 use Rattle.drum_bound.proofs.KeysTaken.{hop_among, hops_at}
+use Rattle.drum_flow.proofs.LongestLaws.{longest_later}
 use Rattle.drum_flow.proofs.Profiles.{hop_may_end}
 use Rattle.drum_bound.proofs.Scans.{Comes}
 
-module _ (scan : Scan) (round : Round) (search : InstructionSearch) (number : ℕ) (leap : Leap)
-    (ready : IsReady scan round search number leap) where
+-- The end of the hop of this number can be reckoned from the leap: it is that hop's, of the angle at
+-- which the instruction is found, and the numbers have room.
+pub record CanEnd (g : Setting) (search : InstructionSearch) (number : ℕ) (leap : Leap) : Type 0 where
+  pub hop : slice_get (hops g.loads g.notes search.location.number) number ≡ Some (leap_hop leap)
+  pub found : search.found ≡ first (is_available search.location.number) search.begun
+  pub time : TakesLongest g search.location.number (search.found % 50) leap
+  pub may_end : MayEnd leap.hop.instruction (seen_way leap.hop.way)
+  pub soon : search.found ≤ 4611686018427387904
+  pub narrow : search.key < 4294967296
+  pub few_hops : number < 4294967296
+
+module _ {L : Type 0} (scan : Scan L) (search : InstructionSearch) (number : ℕ) (leap : Leap)
+    (ready : IsReady scan search number leap) where
   -- It can be reckoned,
   pub can_end : CanEnd (setting_in scan) search number leap
   can_end =
@@ -58,15 +70,14 @@ module _ (scan : Scan) (round : Round) (search : InstructionSearch) (number : �
     is = ready.hop;
   }
 
-  -- It begins at the clock that its key keeps, and it is its turn.
-  pub to_end : (setting : Setting) → setting ≡ setting_in scan → IsToEnd setting scan.cells search number leap
-  to_end setting same = record {
-    begun = ready.search.begun;
-    end = subst (λ (s : Setting). CanEnd s search number leap) (sym same) can_end;
-    order = order_of scan;
-    there = ready.search.there;
-    are = subst (λ (s : Setting). AreCells s (order_of scan) scan.cells) (sym same) ready.cells;
-    turn = subst (λ (s : Setting).
-        scan.cells.made ≡ turns_below s (order_of scan) (kept_in scan.cells) search.key + number) (sym same) ready.turn;
-    few = ready.few;
-  }
+  -- It is no earlier than the start angle.
+  pub sought_after : scan.cells.entries.angle ≤ (end_sought (setting_in scan) search number leap).clock
+  sought_after =
+      let kept = ready.search.begun in
+      omega (
+        arith,
+        clock_after scan.cells search.key kept.0 kept.1,
+        kept.2,
+        longest_later (setting_in scan).times search.location.number leap.hop.instruction (seen_way leap.hop.way)
+            search.begun,
+      )

@@ -1,6 +1,6 @@
 -- The end of a hop, as it is kept.
 use Rattle.std.specs.Prelude.{Some}
-use Rattle.drum_bound.specs.declared.steps.end.End.{End}
+use Rattle.drum_bound.specs.declared.scan.steps.end.End.{End}
 use Rattle.drum_bound.specs.declared.latest.Latest.{Latest}
 
 -- its clock, and the key and the hop that it is of

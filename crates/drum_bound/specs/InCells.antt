@@ -6,7 +6,6 @@ use Rattle.drum_bound.specs.declared.cells.Cells.{Cells}
 use Rattle.drum_bound.specs.declared.cells.entries.Entries.{Entries}
 use Rattle.drum_bound.specs.declared.cells.Onto.{Onto}
 use Rattle.drum_bound.specs.declared.latest.Latest.{Latest}
-use Rattle.drum_bound.specs.declared.instruction_search.InstructionSearch.{InstructionSearch}
 use Rattle.drum_bound.specs.declared.worst.Worst.{Worst}
 use Rattle.drum_bound.specs.InEntries.{AreKept, kept_of, pairs_of}
 
@@ -47,8 +46,8 @@ HaveEntries place_of counts_of cells =
     (key : ℕ) (entry : Worst) → Contains (pairs_of cells.entries) (key, entry)
     → (entry.place.number ≡ place_of key) × (entry.counts ≡ counts_of key)
 
--- A hop goes on at a later key, of this round.
-pub record IsOnward (cells : Cells) (search : InstructionSearch) (onto : Onto) : Type 0 where
+-- A hop of a key goes on at a later key, of this round.
+pub record IsOnward (cells : Cells) (from : ℕ) (onto : Onto) : Type 0 where
   pub there : onto.key < size_of cells
   pub round : onto.key / cells.words ≡ onto.round
-  pub later : search.key < onto.key
+  pub later : from < onto.key

@@ -5,6 +5,7 @@ pub mod Counted
 pub mod Digits
 pub mod EndOf
 pub mod Ends
+pub mod FoundOf
 pub mod InCells
 pub mod InEntries
 pub mod InLimited
@@ -20,5 +21,4 @@ pub mod Scanned
 pub mod SearchOf
 pub mod Table
 pub mod TakenOf
-pub mod ToEnd
 pub mod Under

@@ -1,5 +1,5 @@
 -- An analysis of finished cells.
-use Rattle.std.specs.Prelude.{◌≡◌, ◌-◌, ◌^◌, ◌<◌, ◌≤◌, List, length}
+use Rattle.std.specs.Prelude.{◌≡◌, ℕ, ◌-◌, ◌^◌, ◌<◌, ◌≤◌, List, length}
 use Rattle.std.specs.Map.{values_of}
 use Rattle.drum_walks.specs.Visited.{Visited, AreInTime}
 use Rattle.drum_bound.specs.declared.analysis.Analysis.{Analysis}
@@ -15,11 +15,11 @@ pub record Backs (cells : Cells) (visits : List Visited) : Type 0 where
   pub below : cells.last.clock - cells.entries.angle < 2 ^ 50
   pub few : length visits ≤ 4000000
 
--- All but the walk is that of these cells.
-pub record IsOfCells (cells : Cells) (analysis : Analysis) : Type 0 where
+-- All but the walk is that of these cells, raised by so many ends.
+pub record IsOfCells (cells : Cells) (made : ℕ) (analysis : Analysis) : Type 0 where
   pub bound : bound_of analysis ≡ cells.last.clock - cells.entries.angle
   pub table : analysis.table.items ≡ values_of (pairs_of cells.entries)
   pub angle : angle_of analysis ≡ cells.entries.angle
   pub words : words_of analysis ≡ cells.words
   pub counts : counts_in_all analysis ≡ cells.counts
-  pub turns : turns_of analysis ≡ cells.made
+  pub turns : turns_of analysis ≡ made

@@ -22,26 +22,26 @@ use Rattle.drum_bound.specs.Scanned.{cell_at, later, raised, Scanned, turns_belo
 use Rattle.drum_bound.specs.Table.{start_angle}
 
 -- what its walks are in
-abbrev pub setting_in : Scan → Setting
+abbrev pub setting_in : {L : Type 0} → Scan L → Setting
 setting_in scan = setting_with scan.keys.now scan.times.now
 
 -- the order of its locations
-abbrev pub order_of : Scan → List ℕ
+abbrev pub order_of : {L : Type 0} → Scan L → List ℕ
 order_of scan = order_in scan.keys.now
 
 -- how many keys it has
-abbrev pub size_in : Scan → ℕ
+abbrev pub size_in : {L : Type 0} → Scan L → ℕ
 size_in scan = keys_of (setting_in scan).notes.marks (order_of scan)
 
 -- the location of a key, and its hops
-abbrev pub place_in : Scan → ℕ → ℕ
+abbrev pub place_in : {L : Type 0} → Scan L → ℕ → ℕ
 place_in scan key = place_at (order_of scan) key
 
-abbrev pub hops_of : Scan → ℕ → List Hop
+abbrev pub hops_of : {L : Type 0} → Scan L → ℕ → List Hop
 hops_of scan key = hops (setting_in scan).loads (setting_in scan).notes (place_in scan key)
 
 -- the round is that of a key's counts
-abbrev pub HasRound : Scan → ℕ → Round → Type 0
+abbrev pub HasRound : {L : Type 0} → Scan L → ℕ → Round → Type 0
 HasRound scan key round = IsRound scan.keys.now.accepted.now (key / length (order_of scan)) round
 
 -- The cells are in order, and are those of these locations and counts.
@@ -53,38 +53,37 @@ pub record AreCells (g : Setting) (order : List ℕ) (cells : Cells) : Type 0 wh
   pub counts : cells.counts ≡ counts_of g.notes.marks
 
 -- The keys below one have been taken.
-pub record IsScanned (scan : Scan) (taken : ℕ) : Type 0 where
+pub record IsScanned {L : Type 0} (scan : Scan L) (taken : ℕ) : Type 0 where
   pub keys : AreKeys scan.keys.now
   pub leaps : HaveLeaps (setting_in scan) (order_of scan) scan.leaps.now
   pub cells : AreCells (setting_in scan) (order_of scan) scan.cells
   pub scanned : Scanned (setting_in scan) (order_of scan) taken taken (kept_in scan.cells)
       scan.cells.last
-  pub turns : scan.cells.made
+  pub turns : scan.steps
       ≡ turns_below (setting_in scan) (order_of scan) (kept_in scan.cells) taken
 
--- A ledger counted the ends that a scan made, between these two moments.
-abbrev pub AreCounted : ℕ → ℕ → Scan → Scan → Type 0
-AreCounted before after old new = after + old.cells.made ≡ before + new.cells.made
-
 -- All have.
-abbrev pub IsDone : Scan → Type 0
+abbrev pub IsDone : {L : Type 0} → Scan L → Type 0
 IsDone scan = IsScanned scan (size_in scan)
 
 -- A hop of the key whose instruction is sought, of this number, is to be taken.
-pub record IsReady (scan : Scan) (own_round : Round) (own_search : InstructionSearch) (number : ℕ)
+pub record IsReady {L : Type 0} (scan : Scan L) (own_search : InstructionSearch) (number : ℕ)
     (own_leap : Leap) : Type 0 where
   pub keys : AreKeys scan.keys.now
   pub cells : AreCells (setting_in scan) (order_of scan) scan.cells
   pub below : own_search.key < scan.keys.now.size
-  pub round : HasRound scan own_search.key own_round
   pub search : IsSearch (order_of scan) (kept_in scan.cells) own_search
   pub hop : slice_get (hops_of scan own_search.key) number ≡ Some (leap_hop own_leap)
   pub leap : IsLeap (setting_in scan) (order_of scan) (place_in scan own_search.key)
       (own_search.found % 50) own_leap
   pub soon : own_search.found ≤ 2 ^ 62
-  pub turn : scan.cells.made
-      ≡ turns_below (setting_in scan) (order_of scan) (kept_in scan.cells) own_search.key + number
-  pub few : scan.cells.made < 2 ^ 62
+
+-- It is the turn of the hop of this number of a key: as many ends were made as the earlier keys at
+-- which something is kept have hops, and as the key has before this one.
+pub record IsTurn {L : Type 0} (scan : Scan L) (key number : ℕ) : Type 0 where
+  pub turn : scan.steps
+      ≡ turns_below (setting_in scan) (order_of scan) (kept_in scan.cells) key + number
+  pub few : scan.steps < 2 ^ 62
 
 -- the cells up to a key are the same
 abbrev pub IsAgreed : ℕ → List (Option Latest) → List (Option Latest) → Type 0

@@ -1,18 +1,15 @@
 -- The search for a key's instruction, as it is held, and the ends of the key's hops.
-use Rattle.std.specs.Prelude.{◌≡◌, ℕ, ◌%◌, ◌^◌, ◌<◌, ◌≤◌, List, Option, Some, slice_get}
+use Rattle.std.specs.Prelude.{◌≡◌, ℕ, List, Option, Some}
 use Rattle.drum_rotation.specs.Available.{is_available}
 use Rattle.drum_rotation.specs.Moment.{first}
 use Rattle.drum_machine.specs.WaysLeft.{seen_way}
-use Rattle.drum_flow.specs.Hops.{hops}
 use Rattle.drum_flow.specs.Walk.{Setting}
 use Rattle.drum_bound.specs.declared.key_hop.KeyHop.{KeyHop}
 use Rattle.drum_bound.specs.declared.latest.Latest.{Latest}
 use Rattle.drum_bound.specs.declared.leap.Leap.{Leap}
 use Rattle.drum_bound.specs.declared.instruction_search.InstructionSearch.{InstructionSearch}
 use Rattle.drum_bound.specs.Keys.{place_at}
-use Rattle.drum_bound.specs.LeapOf.{TakesLongest, leap_hop}
 use Rattle.drum_flow.specs.Longest.{longest}
-use Rattle.drum_flow.specs.Profile.{MayEnd}
 use Rattle.drum_bound.specs.Scanned.{cell_at}
 
 -- this clock is kept at a key
@@ -38,15 +35,3 @@ end_sought g search number leap = record {
       search.begun;
   origin = Some (hop_sought search number);
 }
-
--- The end of the hop of this number can be reckoned from the leap: it is that hop's, of the angle
--- at which the instruction is found, and the numbers have room.
-pub record CanEnd (g : Setting) (search : InstructionSearch) (number : ℕ) (leap : Leap) :
-    Type 0 where
-  pub hop : slice_get (hops g.loads g.notes search.location.number) number ≡ Some (leap_hop leap)
-  pub found : search.found ≡ first (is_available search.location.number) search.begun
-  pub time : TakesLongest g search.location.number (search.found % 50) leap
-  pub may_end : MayEnd leap.hop.instruction (seen_way leap.hop.way)
-  pub soon : search.found ≤ 2 ^ 62
-  pub narrow : search.key < 2 ^ 32
-  pub few_hops : number < 2 ^ 32

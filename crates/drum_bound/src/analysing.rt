@@ -1,16 +1,17 @@
 //! The analysis: what it promises of the bound, the walk and the table, and the way to them.
 
-ghost use Rattle.std.specs.Prelude.{◌≡◌, ◌+◌, ◌<◌, length, IfOk, IfErr};
+ghost use Rattle.std.specs.Prelude.{◌≡◌, ◌<◌, length, IfOk, IfErr};
 ghost use Rattle.drum_deck.specs.InDeck.{loads_in, start_in};
 ghost use Rattle.drum_acceptance.specs.Acceptance.{IsRefusal};
 ghost use Rattle.drum_acceptance.specs.AcceptedFlow.{in_order};
-ghost use Rattle.drum_bound.specs.AnalysisOf.{IsAnalysis, IsAnalysisOf, turns_of, words_of};
+ghost use Rattle.drum_bound.specs.AnalysisOf.{IsAnalysis, IsAnalysisOf, words_of};
 ghost use Rattle.drum_bound.specs.KeysOf.{AreKeys, CanHaveKeys, order_in, setting_of, setting_with};
 
 use crate::analysis::Analysis;
+use crate::counted_analysis::CountedAnalysis;
 use crate::keys::Keys;
 use crate::scan::Scan;
-use crate::steps::Steps;
+use crate::scan::steps::Steps;
 use drum_acceptance::AcceptedFlow;
 use drum_deck::Deck;
 use drum_flow::Refusal;
@@ -24,18 +25,20 @@ fn analysis_by<'a, L: Ledger>(
     alloc: Global,
     times: &'a Times,
     keys: &'a Keys<'a>,
-    steps: &mut Steps<L>,
-) -> Result<Analysis, AllocError>
-    requires { AreKeys keys.now }
-    ensures is { IfOk result (IsAnalysis (setting_with keys.now times.now)) }
-    ensures words { IfOk result (λ analysis. words_of analysis ≡ length (order_in keys.now)) }
-    ensures counted { IfOk result (λ analysis. steps.new ≡ steps.old + turns_of analysis) }
+    steps: Steps<L>,
+) -> Result<CountedAnalysis<L>, AllocError>
+    requires none { steps ≡ 0 }
+    requires keys { AreKeys keys.now }
+    ensures is { IfOk result (λ counted.
+        IsAnalysis (setting_with keys.now times.now) counted.analysis) }
+    ensures words { IfOk result (λ counted.
+        words_of counted.analysis ≡ length (order_in keys.now)) }
 {
     let leaps = keys.leaps(alloc, times)?;
-    let scan = Scan::of(alloc, times, keys, &leaps, steps)?;
+    let scan: Scan<'_, L> = Scan::of(alloc, times, keys, &leaps, steps)?;
     let trace = scan.walk(alloc)?;
-    let analysis = Analysis::of(alloc, scan.cells, trace.visits, trace.passed)?;
-    Ok(analysis)
+    let counted = CountedAnalysis::of(alloc, scan.into_found(), trace.visits, trace.passed)?;
+    Ok(counted)
 }
 
 /// The analysis of an accepted flow.
@@ -43,12 +46,14 @@ fn analysis_of<'a, L: Ledger>(
     alloc: Global,
     accepted: &'a AcceptedFlow<'a>,
     times: &'a Times,
-    steps: &mut Steps<L>,
-) -> Result<Analysis, AllocError>
-    requires { CanHaveKeys accepted.now }
-    ensures is { IfOk result (IsAnalysis (setting_of accepted.now times.now)) }
-    ensures words { IfOk result (λ analysis. words_of analysis ≡ length (in_order accepted.now)) }
-    ensures counted { IfOk result (λ analysis. steps.new ≡ steps.old + turns_of analysis) }
+    steps: Steps<L>,
+) -> Result<CountedAnalysis<L>, AllocError>
+    requires none { steps ≡ 0 }
+    requires keys { CanHaveKeys accepted.now }
+    ensures is { IfOk result (λ counted.
+        IsAnalysis (setting_of accepted.now times.now) counted.analysis) }
+    ensures words { IfOk result (λ counted.
+        words_of counted.analysis ≡ length (in_order accepted.now)) }
 {
     // by match: the checker has no proof yet for `?` on what borrows and is dropped here
     let keys: Result<Keys<'a>, AllocError> = Keys::of(alloc, accepted);
@@ -58,8 +63,8 @@ fn analysis_of<'a, L: Ledger>(
     analysis_by(alloc, times, &keys, steps)
 }
 
-/// As [`analyse`], with a ledger of the caller's: the one maker of ends counts there each end of a
-/// hop that it makes, as many in all as [`turns`](Analysis::turns) says.
+/// As [`analyse`], on a ledger of the caller's, which is handed out with the analysis: as many ends
+/// of hops stand on it as [`turns`](Analysis::turns) says.
 ///
 /// # Errors
 ///
@@ -69,10 +74,13 @@ pub fn analyse_counting<L: Ledger>(
     deck: &Deck,
     times: &Times,
     notes: &Notes,
-    steps: &mut Steps<L>,
-) -> Result<Analysis, Refusal>
-    ensures analysed { IfOk result (IsAnalysisOf deck.now times.now notes.now) }
-    ensures counted { IfOk result (λ analysis. steps.new ≡ steps.old + turns_of analysis) }
+    blank: Blank,
+) -> Result<CountedAnalysis<L>, Refusal>
+    requires name { blank.name ≡ L.name }
+    requires parts { blank.parts ≡ L.parts }
+    requires some { 0 < L.parts }
+    ensures analysed { IfOk result (λ counted.
+        IsAnalysisOf deck.now times.now notes.now counted.analysis) }
     ensures refused { IfErr result (IsRefusal (loads_in deck.now) notes.now (start_in deck.now)) }
 {
     // What `marks` promises: the marks are 64 at most.
@@ -80,11 +88,11 @@ pub fn analyse_counting<L: Ledger>(
     let accepted = AcceptedFlow::of(alloc, deck, notes)?;
     // What `location_set` promises: no location is there twice.
     let _executed = accepted.flow().executed();
-    let analysis = analysis_of(alloc, &accepted, times, steps)?;
-    Ok(analysis)
+    let counted = analysis_of(alloc, &accepted, times, Steps::begin(blank))?;
+    Ok(counted)
 }
 
-/// As [`analyse_counting`], on a ledger of its own.
+/// The analysis that [`analyse_counting`] gives, without its ledger.
 fn analyse_from<L: Ledger>(
     alloc: Global,
     deck: &Deck,
@@ -98,8 +106,8 @@ fn analyse_from<L: Ledger>(
     ensures analysed { IfOk result (IsAnalysisOf deck.now times.now notes.now) }
     ensures refused { IfErr result (IsRefusal (loads_in deck.now) notes.now (start_in deck.now)) }
 {
-    let mut steps: Steps<L> = Steps::begin(blank);
-    analyse_counting(alloc, deck, times, notes, &mut steps)
+    let counted: CountedAnalysis<L> = analyse_counting(alloc, deck, times, notes, blank)?;
+    Ok(counted.into_analysis())
 }
 
 /// The analysis of a deck with its timing table and notes: the bound, a walk that reaches it, and

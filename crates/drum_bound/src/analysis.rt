@@ -1,6 +1,6 @@
 //! What an analysis hands out: the bound, the table of worst times, and a walk.
 
-ghost use Rattle.std.specs.Prelude.{◌≡◌, ◌^◌, ◌<◌, ◌≤◌, length, map};
+ghost use Rattle.std.specs.Prelude.{◌≡◌, ◌*◌, ◌^◌, ◌<◌, ◌≤◌, length, map};
 ghost use Rattle.drum_walks.specs.Visited.{AreInTime, seen_visit};
 
 use crate::cells::Cells;
@@ -31,6 +31,7 @@ pub struct Analysis {
     ghost on_drum: { angle < 50 },
     ghost below: { bound < 2 ^ 50 },
     ghost few: { length walk.items ≤ 4000000 },
+    ghost limit: { length table.items ≤ counts * words },
 }
 
 impl Analysis {
@@ -40,23 +41,24 @@ impl Analysis {
     ghost use Rattle.drum_bound.specs.OfCells.{Backs, IsOfCells};
     ghost use Rattle.drum_bound.specs.RowOf.{row_in};
 
-    /// The analysis of a table as it was raised, with a walk that takes as long as its latest end,
-    /// and how often that passes each mark. (That the table is finished and the walk is one is said
-    /// by who calls this.)
+    /// The analysis of a table as it was raised by so many ends, with a walk that takes as long as
+    /// its latest end, and how often that passes each mark. (That the table is finished and the
+    /// walk is one is said by who calls this.)
     pub(crate) fn of(
         alloc: Global,
         cells: Cells,
+        turns: u64,
         walk: Vec<Visit>,
         passed: [u64; Mark::MOST],
     ) -> Result<Analysis, AllocError>
         requires { Backs cells (map seen_visit walk.items) }
-        ensures cells { IfOk result (IsOfCells cells) }
+        ensures cells { IfOk result (IsOfCells cells turns) }
         ensures walk { IfOk result (λ analysis. analysis.walk ≡ walk) }
         ensures passed { IfOk result (λ analysis. analysis.passed ≡ passed) }
     {
         let angle = cells.angle();
         let bound = cells.last().clock - angle;
-        let (words, counts, turns) = (cells.words(), cells.counts(), cells.made());
+        let (words, counts) = (cells.words(), cells.counts());
         let table = cells.into_table(alloc)?;
         Ok(Analysis {
             table,

@@ -1,18 +1,19 @@
 //! The bound alone: the scan of an analysis, with no walk made of it.
 
-ghost use Rattle.std.specs.Prelude.{◌≡◌, ◌^◌, ◌<◌, IfOk, IfErr, OnOk, length};
+ghost use Rattle.std.specs.Prelude.{◌≡◌, ◌^◌, ◌<◌, IfOk, IfErr, length};
 ghost use Rattle.drum_deck.specs.InDeck.{loads_in, start_in};
 ghost use Rattle.drum_flow.specs.SettingOf.{setting};
 ghost use Rattle.drum_acceptance.specs.Acceptance.{IsRefusal};
 ghost use Rattle.drum_acceptance.specs.AcceptedFlow.{in_order};
-ghost use Rattle.drum_walks.specs.Worst.{IsWorst};
 ghost use Rattle.drum_bound.specs.BoundOf.{IsBound};
-ghost use Rattle.drum_bound.specs.Counted.{CountsTableOf, CountsTable};
+ghost use Rattle.drum_bound.specs.Counted.{HasFound, IsCounted};
+ghost use Rattle.drum_bound.specs.FoundOf.{found_bound};
 ghost use Rattle.drum_bound.specs.KeysOf.{AreKeys, CanHaveKeys, order_in, setting_of, setting_with};
 
 use crate::keys::Keys;
 use crate::scan::Scan;
-use crate::steps::Steps;
+use crate::scan::found::Found;
+use crate::scan::steps::Steps;
 use drum_acceptance::AcceptedFlow;
 use drum_deck::Deck;
 use drum_flow::Refusal;
@@ -21,47 +22,45 @@ use std::alloc::{AllocError, Global};
 use std::marker::Brand;
 use std::sync::ledger::{Blank, Ledger};
 
-/// The bound by the keys of an accepted deck.
-fn bound_by<'a, L: Ledger>(
+/// What is found by the keys of an accepted deck.
+fn found_by<'a, L: Ledger>(
     alloc: Global,
     times: &'a Times,
     keys: &'a Keys<'a>,
-    steps: &mut Steps<L>,
-) -> Result<u64, AllocError>
-    requires { AreKeys keys.now }
-    ensures worst { IfOk result (IsWorst (setting_with keys.now times.now)) }
-    ensures below { IfOk result (λ bound. bound < 2 ^ 50) }
-    ensures counted { OnOk result (CountsTableOf (setting_with keys.now times.now)
-        (length (order_in keys.now)) steps.old steps.new) }
+    steps: Steps<L>,
+) -> Result<Found<L>, AllocError>
+    requires none { steps ≡ 0 }
+    requires keys { AreKeys keys.now }
+    ensures { IfOk result (HasFound (setting_with keys.now times.now)
+        (length (order_in keys.now))) }
 {
     let leaps = keys.leaps(alloc, times)?;
     let scan = Scan::of(alloc, times, keys, &leaps, steps)?;
-    Ok(scan.bound())
+    Ok(scan.into_found())
 }
 
-/// The bound of an accepted flow.
-fn bound_of<'a, L: Ledger>(
+/// What is found of an accepted flow.
+fn found_of<'a, L: Ledger>(
     alloc: Global,
     accepted: &'a AcceptedFlow<'a>,
     times: &'a Times,
-    steps: &mut Steps<L>,
-) -> Result<u64, AllocError>
-    requires { CanHaveKeys accepted.now }
-    ensures worst { IfOk result (IsWorst (setting_of accepted.now times.now)) }
-    ensures below { IfOk result (λ bound. bound < 2 ^ 50) }
-    ensures counted { OnOk result (CountsTableOf (setting_of accepted.now times.now)
-        (length (in_order accepted.now)) steps.old steps.new) }
+    steps: Steps<L>,
+) -> Result<Found<L>, AllocError>
+    requires none { steps ≡ 0 }
+    requires keys { CanHaveKeys accepted.now }
+    ensures { IfOk result (HasFound (setting_of accepted.now times.now)
+        (length (in_order accepted.now))) }
 {
     // by match: the checker has no proof yet for `?` on what borrows and is dropped here
     let keys: Result<Keys<'a>, AllocError> = Keys::of(alloc, accepted);
     let Ok(keys) = keys else {
         return Err(AllocError);
     };
-    bound_by(alloc, times, &keys, steps)
+    found_by(alloc, times, &keys, steps)
 }
 
-/// As [`bound`], with a ledger of the caller's: the one maker of ends counts there each end of a
-/// hop that it makes, as many in all as the entries of the table of worst times have hops.
+/// As [`bound`], on a ledger of the caller's, which is handed out with the bound and the table that
+/// was raised: as many ends of hops stand on it as the table's entries have hops.
 ///
 /// # Errors
 ///
@@ -71,12 +70,15 @@ pub fn bound_counting<L: Ledger>(
     deck: &Deck,
     times: &Times,
     notes: &Notes,
-    steps: &mut Steps<L>,
-) -> Result<u64, Refusal>
-    ensures bound { IfOk result (IsBound (setting deck.now times.now notes.now)) }
-    ensures below { IfOk result (λ bound. bound < 2 ^ 50) }
-    ensures counted { OnOk result
-        (CountsTable (setting deck.now times.now notes.now) steps.old steps.new) }
+    blank: Blank,
+) -> Result<Found<L>, Refusal>
+    requires name { blank.name ≡ L.name }
+    requires parts { blank.parts ≡ L.parts }
+    requires some { 0 < L.parts }
+    ensures bound { IfOk result (λ found.
+        IsBound (setting deck.now times.now notes.now) (found_bound found)) }
+    ensures below { IfOk result (λ found. found_bound found < 2 ^ 50) }
+    ensures counted { IfOk result (IsCounted (setting deck.now times.now notes.now)) }
     ensures refused { IfErr result (IsRefusal (loads_in deck.now) notes.now (start_in deck.now)) }
 {
     // What `marks` promises: the marks are 64 at most.
@@ -84,11 +86,11 @@ pub fn bound_counting<L: Ledger>(
     let accepted = AcceptedFlow::of(alloc, deck, notes)?;
     // What `location_set` promises: no location is there twice.
     let _executed = accepted.flow().executed();
-    let found = bound_of(alloc, &accepted, times, steps)?;
+    let found = found_of(alloc, &accepted, times, Steps::begin(blank))?;
     Ok(found)
 }
 
-/// As [`bound_counting`], on a ledger of its own.
+/// The bound that [`bound_counting`] finds, without its ledger.
 fn bound_from<L: Ledger>(
     alloc: Global,
     deck: &Deck,
@@ -103,8 +105,8 @@ fn bound_from<L: Ledger>(
     ensures below { IfOk result (λ bound. bound < 2 ^ 50) }
     ensures refused { IfErr result (IsRefusal (loads_in deck.now) notes.now (start_in deck.now)) }
 {
-    let mut steps: Steps<L> = Steps::begin(blank);
-    bound_counting(alloc, deck, times, notes, &mut steps)
+    let found: Found<L> = bound_counting(alloc, deck, times, notes, blank)?;
+    Ok(found.bound())
 }
 
 /// The bound of a deck with its timing table and notes, in word times, below 2^50: no run that

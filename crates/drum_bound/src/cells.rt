@@ -7,16 +7,12 @@ mod entries;
 mod key_hasher;
 mod limited;
 
-use crate::instruction_search::InstructionSearch;
 use crate::latest::Latest;
-use crate::leap::Leap;
-use crate::steps::Steps;
-use crate::steps::end::End;
+use crate::scan::steps::end::End;
 use crate::worst::Worst;
 use drum_core::Location;
 use entries::Entries;
 use std::alloc::{AllocError, Global};
-use std::sync::ledger::Ledger;
 
 /// Where a hop that no full mark bars goes on.
 #[derive(Clone, Copy)]
@@ -34,16 +30,13 @@ pub struct Onto {
 /// latest of all that no full mark bars. Where something is kept, an entry of the table of worst
 /// times holds it: the table is handed out as it was raised.
 ///
-/// What raises is the end of a hop that is made in the same call, from the clock that the hop's key
-/// keeps: no other module asks for an [`End`].
+/// What raises is the end of a hop, which is spent by it.
 #[derive(Drop)]
 pub struct Cells {
     entries: Entries,
     /// Whether something is kept at a key of a round, by the rounds' numbers.
     rounds: Vec<bool>,
     last: Latest,
-    /// How many ends have been made.
-    made: u64,
     /// How many executed locations there are, and how many counts the marks can have.
     words: usize,
     counts: usize,
@@ -56,12 +49,11 @@ impl Cells {
     ghost use Rattle.std.specs.Prelude.{Some, None, IfOk, OnOk};
     ghost use Rattle.std.specs.Map.{values_of};
     ghost use Rattle.drum_bound.specs.InEntries.{pairs_of};
-    ghost use Rattle.drum_flow.specs.Walk.{Setting};
     ghost use Rattle.drum_bound.specs.InCells.{AreHeld, HaveEntries, IsOnward, SameScan};
     ghost use Rattle.drum_bound.specs.InCells.{kept_in, size_of};
     ghost use Rattle.drum_bound.specs.Scanned.{cell_at, later, raised};
-    ghost use Rattle.drum_bound.specs.SearchOf.{KeepsAt, end_sought};
-    ghost use Rattle.drum_bound.specs.ToEnd.{IsToEnd};
+    ghost use Rattle.drum_bound.specs.EndOf.{latest_in};
+    ghost use Rattle.drum_bound.specs.SearchOf.{KeepsAt};
 
     /// The cells of `words` executed locations and `counts` counts: the start's key keeps the
     /// moment of the start, at this angle, and no other keeps anything.
@@ -87,7 +79,6 @@ impl Cells {
         ensures entries { IfOk result (λ cells. (place_of counts_of : ℕ → ℕ)
             → start.number ≡ place_of start_key → 0 ≡ counts_of start_key
             → HaveEntries place_of counts_of cells) }
-        ensures made { IfOk result (λ cells. cells.made ≡ 0) }
         ensures angle { IfOk result (λ cells. cells.entries.angle ≡ angle) }
         ensures words { IfOk result (λ cells. cells.words ≡ words) }
         ensures counts { IfOk result (λ cells. cells.counts ≡ counts) }
@@ -104,7 +95,6 @@ impl Cells {
             entries,
             rounds,
             last,
-            made: 0,
             words,
             counts,
         })
@@ -155,13 +145,6 @@ impl Cells {
         self.counts
     }
 
-    /// How many ends have been made.
-    pub fn made(&self) -> u64
-        ensures { result ≡ self.now.made }
-    {
-        self.made
-    }
-
     /// The clock that a key keeps; `None` where nothing is.
     pub fn clock_at(&self, key: usize) -> Option<u64>
         requires held { AreHeld self.now }
@@ -182,81 +165,44 @@ impl Cells {
         self.rounds[round]
     }
 
-    /// Makes the end of a hop that goes on, from the clock that its key keeps: it is kept where it
-    /// is later than what is kept at the key onto which the hop leads, and of all.
+    /// Spends the end of a hop that goes on: it is kept where it is later than what is kept at the
+    /// key onto which the hop leads, and of all.
     #[inline(always)]
-    pub fn raise<L: Ledger>(
-        &mut self,
-        search: &InstructionSearch,
-        number: usize,
-        leap: &Leap,
-        onto: &Onto,
-        steps: &mut Steps<L>,
-    ) -> Result<(), AllocError>
-        ghost setting: { Setting }
+    pub fn raise(&mut self, end: End, onto: &Onto) -> Result<(), AllocError>
         requires held { AreHeld self.old }
-        requires end { IsToEnd setting self.old search.now number leap.now }
-        requires onward { IsOnward self.old search.now onto.now }
+        requires onward { IsOnward self.old end.origin.key onto.now }
+        requires after { self.old.entries.angle ≤ end.clock }
         ensures held { OnOk result (AreHeld self.new) }
-        ensures kept { OnOk result (kept_in self.new ≡ raised (kept_in self.old) onto.now.key
-            (end_sought setting search.now number leap.now)) }
-        ensures last { OnOk result (self.new.last
-            ≡ later self.old.last (end_sought setting search.now number leap.now)) }
+        ensures kept { OnOk result (kept_in self.new
+            ≡ raised (kept_in self.old) onto.now.key (latest_in end)) }
+        ensures last { OnOk result (self.new.last ≡ later self.old.last (latest_in end)) }
         ensures entries { OnOk result ((place_of counts_of : ℕ → ℕ)
             → onto.now.location.number ≡ place_of onto.now.key
             → onto.now.counts ≡ counts_of onto.now.key
             → HaveEntries place_of counts_of self.old → HaveEntries place_of counts_of self.new) }
         ensures same { OnOk result (SameScan self.old self.new) }
-        ensures made { OnOk result (self.new.made ≡ self.old.made + 1) }
-        ensures counted { OnOk result (steps.new ≡ steps.old + 1) }
     {
-        self.made += 1;
-        let end = End::of(search, number, leap, steps);
-        self.entries
-            .keep(onto.key as u32, onto.location, onto.counts, &end)?;
+        let kept = self
+            .entries
+            .keep(onto.key as u32, onto.location, onto.counts, &end);
+        let latest = end.spend();
+        kept?;
         self.rounds[onto.round] = true;
-        self.last.raise(end.latest());
+        self.last.raise(latest);
         Ok(())
     }
 
-    /// Makes the end of a hop that stops, from the clock that its key keeps: it is kept where it is
-    /// later than all, and nowhere else.
+    /// Spends the end of a hop that stops: it is kept where it is later than all, and nowhere else.
     #[inline(always)]
-    pub fn stop<L: Ledger>(
-        &mut self,
-        search: &InstructionSearch,
-        number: usize,
-        leap: &Leap,
-        steps: &mut Steps<L>,
-    )
-        ghost setting: { Setting }
-        requires { IsToEnd setting self.old search.now number leap.now }
-        ensures same { self.new ≡ record self.old {
-          last = later self.old.last (end_sought setting search.now number leap.now);
-          made = self.old.made + 1;
-        } }
-        ensures counted { steps.new ≡ steps.old + 1 }
+    pub fn stop(&mut self, end: End)
+        ensures { self.new ≡ record self.old { last = later self.old.last (latest_in end) } }
     {
-        self.made += 1;
-        let end = End::of(search, number, leap, steps);
-        self.last.raise(end.latest());
+        self.last.raise(end.spend());
     }
 
-    /// Makes the end of a hop that a full mark bars: it is kept nowhere.
+    /// Spends the end of a hop that a full mark bars: it is kept nowhere.
     #[inline(always)]
-    pub fn bar<L: Ledger>(
-        &mut self,
-        search: &InstructionSearch,
-        number: usize,
-        leap: &Leap,
-        steps: &mut Steps<L>,
-    )
-        ghost setting: { Setting }
-        requires { IsToEnd setting self.old search.now number leap.now }
-        ensures same { self.new ≡ record self.old { made = self.old.made + 1 } }
-        ensures counted { steps.new ≡ steps.old + 1 }
-    {
-        self.made += 1;
-        let _end = End::of(search, number, leap, steps);
+    pub fn bar(&self, end: End) {
+        end.spend();
     }
 }

@@ -22,6 +22,7 @@ use drum_flow::Hop;
 use drum_times::Mark;
 use drum_walks::{Visit, no_passes};
 use std::alloc::{AllocError, Global};
+use std::sync::ledger::Ledger;
 
 /// A walk, and how often it passes each mark, by the marks' indices; what stands past the last mark
 /// means nothing.
@@ -31,7 +32,7 @@ pub struct Trace {
     pub passed: [u64; Mark::MOST],
 }
 
-impl Scan<'_> {
+impl<L: Ledger> Scan<'_, L> {
     /// The hop of this number of a location, of this index: one of its leaps, or, where none are
     /// kept, found among its hops.
     fn hop_at(&self, index: usize, number: usize) -> Option<Hop>

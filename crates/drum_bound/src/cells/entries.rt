@@ -5,7 +5,7 @@ ghost use Rattle.std.specs.Prelude.{◌≡◌, ◌≢◌, ◌+◌, ◌<◌, ◌�
 use super::limited::Limited;
 use crate::key_hop::KeyHop;
 use crate::latest::Latest;
-use crate::steps::end::End;
+use crate::scan::steps::end::End;
 use crate::worst::Worst;
 use drum_core::Location;
 use std::alloc::{AllocError, Global};

@@ -19,8 +19,8 @@ use Rattle.drum_bound.proofs.Ordering.{accepted_keys, as_many}
 use Rattle.drum_bound.proofs.Unders.{arrive_under}
 use Rattle.drum_bound.proofs.analysing.analyse_counting.Goals as goal
 
-pub analysis_of-requires : goal.analysis_of-requires
-analysis_of-requires g c =
+pub analysis_of-requires-clause-keys : goal.analysis_of-requires-clause-keys
+analysis_of-requires-clause-keys g c =
     let ensures = c.in_ok-accepted.ensures in
     accepted_keys c.in_ok-accepted.accepted c.args.deck.now c.args.notes.now ensures.deck ensures.notes
     ensures.accepted ensures.order c.marks-marks.ensures.sound
@@ -32,7 +32,7 @@ returns-clause-analysed g c =
     let deck = c.args.deck.now in
     let notes = c.args.notes.now in
     let times = c.args.times.now in
-    let analysis = c.in_ok-analysis.analysis in
+    let analysis = c.in_ok-counted.counted.analysis in
     let ensures = c.in_ok-accepted.ensures in
     let same : length (in_order accepted) ≡ length (executed_in accepted.flow) =
     as_many accepted
@@ -45,10 +45,10 @@ returns-clause-analysed g c =
     (subst (λ (f : Flow). AreDifferent (executed_in f)) c.flow.ensures c.executed-executed.ensures.different) in
     let is : IsAnalysis (setting deck times notes) analysis =
     moved (λ d n. IsAnalysis (setting d times n) analysis) (deck_of accepted.flow) deck (notes_of accepted.flow)
-    notes ensures.deck ensures.notes c.in_ok-analysis.ensures.is in
+    notes ensures.deck ensures.notes c.in_ok-counted.ensures.is in
     let proper = is_proper deck times notes c.marks-marks.ensures.sound in
     record {
-      accepted = (executed_in accepted.flow, ensures.accepted, c.in_ok-analysis.ensures.words ∙ same);
+      accepted = (executed_in accepted.flow, ensures.accepted, c.in_ok-counted.ensures.words ∙ same);
       walks = is;
       kept = λ s strides first is_run kept.
           let walked = kept_walk (setting deck times notes) (executed_in accepted.flow) s strides proper

@@ -12,12 +12,13 @@ use Rattle.drum_acceptance.specs.AcceptedFlow.{in_order}
 use Rattle.drum_acceptance.specs.Free.{IsFreeOrder}
 use Rattle.drum_acceptance.proofs.Acceptances.{moved}
 use Rattle.drum_walks.specs.Worst.{IsWorst}
-use Rattle.drum_bound.specs.Counted.{CountsTableOf}
+use Rattle.drum_bound.specs.Counted.{HasFound}
+use Rattle.drum_bound.specs.FoundOf.{found_bound}
 use Rattle.drum_bound.proofs.Ordering.{accepted_keys, as_many}
 use Rattle.drum_bound.proofs.bounding.bound_counting.Goals as goal
 
-pub bound_of-requires : goal.bound_of-requires
-bound_of-requires g c =
+pub found_of-requires-clause-keys : goal.found_of-requires-clause-keys
+found_of-requires-clause-keys g c =
     let ensures = c.in_ok-accepted.ensures in
     accepted_keys c.in_ok-accepted.accepted c.args.deck.now c.args.notes.now ensures.deck ensures.notes
     ensures.accepted ensures.order c.marks-marks.ensures.sound
@@ -30,8 +31,8 @@ returns-clause-bound g c =
     let notes = c.args.notes.now in
     let times = c.args.times.now in
     let ensures = c.in_ok-accepted.ensures in
-    let worst : IsWorst (setting deck times notes) c.in_ok-found.found =
-    moved (λ d n. IsWorst (setting d times n) c.in_ok-found.found) (deck_of accepted.flow) deck
+    let worst : IsWorst (setting deck times notes) (found_bound c.in_ok-found.found) =
+    moved (λ d n. IsWorst (setting d times n) (found_bound c.in_ok-found.found)) (deck_of accepted.flow) deck
     (notes_of accepted.flow) notes ensures.deck ensures.notes c.in_ok-found.ensures.worst in
     record {
       accepted = (executed_in accepted.flow, ensures.accepted);
@@ -60,8 +61,8 @@ returns-clause-counted g c =
     (subst (λ (f : Flow). AreDifferent (executed_in f)) c.flow.ensures c.executed-executed.ensures.different) in (
       executed_in accepted.flow,
       ensures.accepted,
-      subst (λ (words : ℕ). CountsTableOf (setting deck times notes) words c.args.steps.now c.bound_of.new.steps) same
-          (moved (λ d n. CountsTableOf (setting d times n) (length (in_order accepted)) c.args.steps.now
-          c.bound_of.new.steps) (deck_of accepted.flow) deck
-          (notes_of accepted.flow) notes ensures.deck ensures.notes c.in_ok-found.ensures.counted),
+      subst (λ (words : ℕ). HasFound (setting deck times notes) words c.in_ok-found.found) same
+          (moved (λ d n. HasFound (setting d times n) (length (in_order accepted)) c.in_ok-found.found)
+          (deck_of accepted.flow) deck
+          (notes_of accepted.flow) notes ensures.deck ensures.notes c.in_ok-found.ensures),
     )

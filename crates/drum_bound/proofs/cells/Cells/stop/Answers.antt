@@ -1,4 +1,4 @@
-use Rattle.std.proofs.Common.{◌≡◌, ◌+◌, ap, ◌∙◌}
+use Rattle.std.proofs.Common.{◌≡◌, ap, ◌∙◌}
 use Rattle.drum_bound.specs.declared.latest.Latest.{Latest}
 use Rattle.drum_bound.specs.InCells.{size_of}
 use Rattle.drum_bound.specs.InEntries.{keys_in}
@@ -7,13 +7,10 @@ use Rattle.drum_bound.proofs.InCellsLaws.{one_equation}
 use Rattle.drum_bound.proofs.cells.Cells.stop.Goals as goal
 
 pub returns : goal.returns
-returns g c = record {
-  same = ap (λ (keys : keys_in c.args.self.now.entries ≡ size_of c.args.self.now). record c.args.self.now {
-    last = c.raise.new.self;
-    made = c.args.self.now.made + 1;
-    keys = keys;
-  }) (one_equation _ c.args.self.now.keys)
-      ∙ ap (λ (last : Latest). record c.args.self.now { last = last; made = c.args.self.now.made + 1 })
-      (c.raise.ensures ∙ ap (later c.args.self.now.last) (c.latest.ensures ∙ c.of-end.ensures.latest));
-  counted = c.of-end.ensures.counted;
-}
+returns c =
+    ap (λ (keys : keys_in c.args.self.now.entries ≡ size_of c.args.self.now). record c.args.self.now {
+      last = c.raise.new.self;
+      keys = keys;
+    }) (one_equation _ c.args.self.now.keys)
+    ∙ ap (λ (last : Latest). record c.args.self.now { last = last })
+    (c.raise.ensures ∙ ap (later c.args.self.now.last) c.spend.ensures)

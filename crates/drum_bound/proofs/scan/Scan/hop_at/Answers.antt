@@ -16,7 +16,7 @@ use Rattle.drum_bound.specs.ScanOf.{setting_in, order_of, size_in, IsScanned}
 use Rattle.drum_bound.proofs.scan.Scan.hop_at.Goals as goal
 
 -- where a location's leaps are kept, its hops are theirs
-leaps_hop : (scan : Scan) (taken index number place : ℕ) (leaps : Vec Leap Global) → IsScanned scan taken
+leaps_hop : {L : Type 0} (scan : Scan L) (taken index number place : ℕ) (leaps : Vec Leap Global) → IsScanned scan taken
     → slice_get scan.leaps.now index ≡ Some (Some leaps)
     → slice_get (order_of scan) index ≡ Some place
     → slice_get (hops (setting_in scan).loads (setting_in scan).notes place) number
@@ -26,7 +26,7 @@ leaps_hop scan taken index number place leaps is at there =
     ∙ slice_get-map leap_hop leaps.items number
 
 -- the leaps of this index, as they were read
-leaps_there : (scan : Scan) (taken index : ℕ) (one : Option (Vec Leap Global)) (leaps : Vec Leap Global)
+leaps_there : {L : Type 0} (scan : Scan L) (taken index : ℕ) (one : Option (Vec Leap Global)) (leaps : Vec Leap Global)
     → IsScanned scan taken → index < length (order_of scan)
     → one ≡ get_or scan.leaps.now index one → get_or scan.leaps.now index one ≡ Some leaps
     → slice_get scan.leaps.now index ≡ Some (Some leaps)
@@ -35,7 +35,7 @@ leaps_there scan taken index one leaps is inside read some =
     ∙ ap (λ (o : Option (Vec Leap Global)). Some o) (read ∙ some)
 
 pub returns-in_err-get-in-Some : goal.returns-in_err-get-in-Some
-returns-in_err-get-in-Some c = λ place there.
+returns-in_err-get-in-Some g c = λ place there.
     let scan = c.args.self.now in
     let leaps = c.in-Some.leaps in
     let past : length leaps.items ≤ c.args.number =
@@ -52,7 +52,7 @@ returns-in_err-get-in-Some c = λ place there.
     ∙ ap (option_map seen_hop) (sym c.from_residual.ensures)
 
 pub returns-in_ok-get-in-Some : goal.returns-in_ok-get-in-Some
-returns-in_ok-get-in-Some c = λ place there.
+returns-in_ok-get-in-Some g c = λ place there.
     let scan = c.args.self.now in
     let leaps = c.in-Some.leaps in
     let looked = c.in_ok-get-in-Some.ensures.lookup in
@@ -66,7 +66,7 @@ returns-in_ok-get-in-Some c = λ place there.
     ∙ ap (option_map leap_hop) at
 
 pub returns-in-None : goal.returns-in-None
-returns-in-None c = λ place there.
+returns-in-None g c = λ place there.
     let scan = c.args.self.now in
     let g = setting_in scan in
     let same : c.node.result.location.number ≡ place =

@@ -12,7 +12,6 @@ loop-leading-init g c =
       times =
           c.in_ok-scan.ensures.times;
       keys = c.in_ok-scan.ensures.keys;
-      counted = omega (arith, c.in_ok-scan.ensures.made);
     }
 
 pub returns-clause-done : goal.returns-clause-done

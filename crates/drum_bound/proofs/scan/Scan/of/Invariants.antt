@@ -1,4 +1,4 @@
-use Rattle.std.proofs.Common.{◌≡◌, ◌+◌, ◌*◌, length}
+use Rattle.std.proofs.Common.{◌≡◌, ◌*◌, length}
 use Rattle.drum_bound.specs.ScanOf.{order_of, IsScanned}
 use Rattle.drum_bound.proofs.scan.Scan.of.Given as goal
 
@@ -8,5 +8,4 @@ invariant-loop-leading g l = record {
   scanned : IsScanned l.scan (l.leading * length (order_of l.scan));
   times : l.scan.times.now ≡ l.fn.times;
   keys : l.scan.keys.now ≡ l.fn.keys;
-  counted : l.steps ≡ l.fn.steps + l.scan.cells.made;
 }

@@ -16,9 +16,9 @@ use Rattle.drum_bound.specs.declared.scan.Scan.{Scan}
 use Rattle.drum_bound.specs.Keys.{place_at}
 use Rattle.drum_bound.specs.LeapOf.{IsLeap, leap_hop}
 use Rattle.drum_bound.specs.RecentOf.{AreRecent}
-use Rattle.drum_bound.specs.ScanOf.{setting_in, order_of, IsReady, IsScanned}
+use Rattle.drum_bound.specs.ScanOf.{setting_in, order_of, HasRound, IsReady, IsScanned, IsTurn}
 use Rattle.drum_bound.proofs.FewHops.{few_hops}
-use Rattle.drum_bound.proofs.Halfway.{half_all, half_more, half_none, half_ready, IsHalfway}
+use Rattle.drum_bound.proofs.Halfway.{half_all, half_more, half_none, half_ready, half_turn, IsHalfway}
 use Rattle.drum_bound.proofs.KeyLaws.{place_there}
 use Rattle.drum_bound.proofs.KeysTaken.{hop_among, hops_at}
 use Rattle.drum_bound.proofs.Lists.{first_left, others_left}
@@ -51,10 +51,9 @@ loop-number-init g c =
     ∙ ap hops_left c.enumerate-number-items.ensures.source ∙ c.requires.hops in
     record {
       same = refl;
-      half = subst (λ (n : ℕ). IsHalfway scan key c.args.search.now.begun n scan.cells) (sym number)
+      half = subst (λ (n : ℕ). IsHalfway scan key c.args.search.now.begun n scan.cells scan.steps) (sym number)
           (half_none scan key c.args.search.now.begun c.requires.scanned c.requires.search.begun);
       left = ap (λ (n : ℕ). drop n (hops_at scan key)) number ∙ sym left;
-      counted = omega (arith, number);
       long = omega (arith, number, ap (λ (hops : List Hop). length hops) left);
       recent = subst (AreRecent (setting_in scan) (order_of scan) c.args.search.now.location.number
           (c.args.search.now.found % 50)) (sym c.none-recent.ensures)
@@ -63,7 +62,7 @@ loop-number-init g c =
     }
 
 -- the hop that comes is that of its number
-comes : (scan : Scan) (key number : ℕ) (left rest : List Hop) (hop : Hop) → drop number (hops_at scan key) ≡ left
+comes : {L : Type 0} (scan : Scan L) (key number : ℕ) (left rest : List Hop) (hop : Hop) → drop number (hops_at scan key) ≡ left
     → left ≡ hop ∷ rest → slice_get (hops_at scan key) number ≡ Some hop
 comes scan key number left rest hop so_far step = first_left number (hops_at scan key) rest hop (so_far ∙ step)
 
@@ -87,14 +86,14 @@ leap-leap-requires-clause-hop g c =
     (sym c.requires.search.there) (hop_among scan key number hop at)
 
 -- its leap, by the place of its key
-leap_there : (scan : Scan) (place other angle : ℕ) (leap : Leap) → place ≡ other
+leap_there : {L : Type 0} (scan : Scan L) (place other angle : ℕ) (leap : Leap) → place ≡ other
     → IsLeap (setting_in scan) (order_of scan) place angle leap
     → IsLeap (setting_in scan) (order_of scan) other angle leap
 leap_there scan place other angle leap same is =
     subst (λ (n : ℕ). IsLeap (setting_in scan) (order_of scan) n angle leap) same is
 
-pub take_leap-requires : goal.take_leap-requires
-take_leap-requires g c =
+pub take_leap-requires-clause-ready : goal.take_leap-requires-clause-ready
+take_leap-requires-clause-ready g c =
     let scan = c.args.self.now in
     let search = c.args.search.now in
     let leap = c.leap-leap.result in
@@ -103,18 +102,30 @@ take_leap-requires g c =
     comes scan search.key number (hops_left (enumerate_source c.loop-number.number-iterator))
     (hops_left (enumerate_source c.next.new.self)) (seen_hop c.in-Some.hop) c.loop-number.invariant.left
     c.in-Some.ensures.steps.0 in
-    λ κs lives. (
-      lives,
-      (
-        refl,
-        subst (λ (n : ℕ). IsReady c.loop-number.self c.args.round.now search n leap) (sym c.in-Some.ensures.steps.1)
-            (half_ready scan c.loop-number.self c.args.round.now search number leap c.loop-number.invariant.same
-            c.requires.scanned c.loop-number.invariant.half c.requires.below c.requires.round c.requires.search
-            (at ∙ ap (λ (h : code.Hop). Some (seen_hop h)) (sym c.leap-leap.ensures.hop))
-            (leap_there scan search.location.number (place_at (order_of scan) search.key) (search.found % 50) leap
-            c.requires.search.there c.leap-leap.ensures.leap)),
-      ),
-    )
+    subst (λ (n : ℕ). IsReady c.loop-number.self search n leap) (sym c.in-Some.ensures.steps.1)
+    (half_ready scan c.loop-number.self search number leap c.loop-number.invariant.same
+    c.requires.scanned c.loop-number.invariant.half c.requires.below c.requires.search
+    (at ∙ ap (λ (h : code.Hop). Some (seen_hop h)) (sym c.leap-leap.ensures.hop))
+    (leap_there scan search.location.number (place_at (order_of scan) search.key) (search.found % 50) leap
+    c.requires.search.there c.leap-leap.ensures.leap))
+
+pub take_leap-requires-clause-turn : goal.take_leap-requires-clause-turn
+take_leap-requires-clause-turn g c =
+    let scan = c.args.self.now in
+    let search = c.args.search.now in
+    let number = enumerate_count c.loop-number.number-iterator in
+    let at : slice_get (hops_at scan search.key) number ≡ Some (seen_hop c.in-Some.hop) =
+    comes scan search.key number (hops_left (enumerate_source c.loop-number.number-iterator))
+    (hops_left (enumerate_source c.next.new.self)) (seen_hop c.in-Some.hop) c.loop-number.invariant.left
+    c.in-Some.ensures.steps.0 in
+    subst (IsTurn c.loop-number.self search.key) (sym c.in-Some.ensures.steps.1)
+    (half_turn scan c.loop-number.self search.key search.begun number (seen_hop c.in-Some.hop)
+    c.loop-number.invariant.same c.requires.scanned c.loop-number.invariant.half c.requires.below at)
+
+pub take_leap-requires-clause-round : goal.take_leap-requires-clause-round
+take_leap-requires-clause-round g c =
+    subst (λ (one : Scan _). HasRound one c.args.search.now.key c.args.round.now)
+    (sym c.loop-number.invariant.same) c.requires.round
 
 pub loop-number-preserved : goal.loop-number-preserved
 loop-number-preserved g c =
@@ -134,15 +145,15 @@ loop-number-preserved g c =
     let after = c.take_leap.new.self in
     record {
       same = c.in_ok-take_leap.ensures.same
-          ∙ ap (λ (one : Scan). record one { cells = after.cells }) c.loop-number.invariant.same;
-      half = subst (λ (n : ℕ). IsHalfway scan key search.begun n after.cells) (sym next_number)
-          (half_more scan c.loop-number.self key search.begun number (leap_hop leap) after.cells
+          ∙ ap (λ (one : Scan _). record one { cells = after.cells; steps = after.steps }) c.loop-number.invariant.same;
+      half = subst (λ (n : ℕ). IsHalfway scan key search.begun n after.cells after.steps) (sym next_number)
+          (half_more scan c.loop-number.self key search.begun number (leap_hop leap) after.cells after.steps
           c.loop-number.invariant.same c.loop-number.invariant.half
-          (at ∙ ap (λ (h : Hop). Some h) (sym own)) c.in_ok-take_leap.ensures.cells c.in_ok-take_leap.ensures.made
+          (at ∙ ap (λ (h : Hop). Some h) (sym own)) c.in_ok-take_leap.ensures.cells
+          c.in_ok-take_leap.ensures.steps
           c.in_ok-take_leap.ensures.agreed c.in_ok-take_leap.ensures.taken);
       left = ap (λ (n : ℕ). drop n (hops_at scan key)) next_number
           ∙ others_left number (hops_at scan key) rest hop (c.loop-number.invariant.left ∙ step);
-      counted = omega (arith, c.loop-number.invariant.counted, next_number, c.in_ok-take_leap.ensures.counted);
       long = omega (arith, c.loop-number.invariant.long, next_number, ap (λ (hops : List Hop). length hops) step);
       recent = c.leap-leap.ensures.recent;
     }
@@ -155,6 +166,6 @@ returns-clause-scanned g c =
     let none : hops_left (enumerate_source c.loop-number.number-iterator) ≡ [] = c.in-None.ensures.steps.0.0 in
     let all : number ≡ length (hops_at scan key) =
     omega (arith, c.loop-number.invariant.long, ap (λ (hops : List Hop). length hops) none) in
-    subst (λ (one : Scan). IsScanned one (key + 1)) (sym c.loop-number.invariant.same)
-    (half_all scan key c.args.search.now.begun number c.loop-number.self.cells c.requires.scanned
+    subst (λ (one : Scan _). IsScanned one (key + 1)) (sym c.loop-number.invariant.same)
+    (half_all scan key c.args.search.now.begun number c.loop-number.self.cells c.loop-number.self.steps c.requires.scanned
     c.requires.search.begun c.loop-number.invariant.half all)

@@ -7,17 +7,14 @@ use Rattle.drum_bound.proofs.Halfway.{IsHalfway}
 use Rattle.drum_bound.proofs.KeysTaken.{hops_at}
 use Rattle.drum_bound.proofs.scan.Scan.take_hops.Given as goal
 
-abbrev pub ghost-take_leap : goal.ghost-take_leap
-ghost-take_leap g a = setting_in a.self.now
-
 -- the hops of the key that the iterator gave have been taken, and the others are left
 abbrev pub invariant-loop-number : goal.invariant-loop-number
 invariant-loop-number g l = record {
-  same : l.self ≡ record l.fn.self { cells = l.self.cells };
-  half : IsHalfway l.fn.self l.search.key l.search.begun (enumerate_count l.number-iterator) l.self.cells;
+  same : l.self ≡ record l.fn.self { cells = l.self.cells; steps = l.self.steps };
+  half : IsHalfway l.fn.self l.search.key l.search.begun (enumerate_count l.number-iterator) l.self.cells
+      l.self.steps;
   left : drop (enumerate_count l.number-iterator) (hops_at l.fn.self l.search.key)
       ≡ hops_left (enumerate_source l.number-iterator);
-  counted : l.steps ≡ l.fn.steps + enumerate_count l.number-iterator;
   long : enumerate_count l.number-iterator + length (hops_left (enumerate_source l.number-iterator))
       ≡ length (hops_at l.fn.self l.search.key);
   recent : AreRecent (setting_in l.fn.self) (order_of l.fn.self) l.search.location.number (l.search.found % 50)

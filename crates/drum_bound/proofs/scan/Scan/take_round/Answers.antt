@@ -21,7 +21,7 @@ next_round : (counts words : ℕ) → counts * words + words ≡ (counts + 1) * 
 next_round counts words = omega arith
 
 -- a round's keys are keys
-round_below : (scan : Scan) (counts index first first' : ℕ) → IsScanned scan first → counts < scan.keys.now.counts
+round_below : {L : Type 0} (scan : Scan L) (counts index first first' : ℕ) → IsScanned scan first → counts < scan.keys.now.counts
     → index < length (order_of scan) → first' ≡ counts * length (order_of scan)
     → first' + index < scan.keys.now.size
 round_below scan counts index first first' is below inside at =
@@ -30,7 +30,7 @@ round_below scan counts index first first' is below inside at =
     omega (arith, up, inside, at, is.keys.size)
 
 -- the keys of a round are those whose counts are of its number
-whole : (scan : Scan) (counts key : ℕ) → scan.cells.words ≡ length (order_of scan)
+whole : {L : Type 0} (scan : Scan L) (counts key : ℕ) → scan.cells.words ≡ length (order_of scan)
     → counts * length (order_of scan) ≤ key → key < counts * length (order_of scan) + length (order_of scan)
     → key / scan.cells.words ≡ counts
 whole scan counts key words from below =
@@ -40,7 +40,7 @@ whole scan counts key words from below =
     ap (λ (w : ℕ). key / w) words ∙ ap (λ (k : ℕ). k / n) same ∙ div-mul-add counts n index (omega (arith, from, below))
 
 -- the first key of a round
-first_is : (scan : Scan) (counts first : ℕ) (round : Round) → IsScanned scan first → counts < scan.keys.now.counts
+first_is : {L : Type 0} (scan : Scan L) (counts first : ℕ) (round : Round) → IsScanned scan first → counts < scan.keys.now.counts
     → IsRound scan.keys.now.accepted.now counts round → round.own.first ≡ counts * length (order_of scan)
 first_is scan counts first round is below of =
     round_first scan.keys.now.accepted.now counts round of (omega (arith, below, is.keys.counts))
@@ -62,7 +62,7 @@ pub loop-index-init : goal.loop-index-init
 loop-index-init g c =
     let scan = c.args.self.now in
     let same : c.args.leading * length (order_of scan) ≡ c.args.leading * length (order_of scan) + 0 = omega arith in
-    record { same = refl; scanned = subst (IsScanned scan) same c.requires.scanned; counted = refl }
+    record { same = refl; scanned = subst (IsScanned scan) same c.requires.scanned }
 
 pub take_key-requires-clause-scanned : goal.take_key-requires-clause-scanned
 take_key-requires-clause-scanned g c =
@@ -79,7 +79,7 @@ take_key-requires-clause-below g c =
     as_long scan.keys.now c.len-index-end.result c.requires.scanned.keys c.len-index-end.ensures in
     let first = first_is scan c.args.leading (c.args.leading * n) c.round-round.result c.requires.scanned c.requires.below
     c.round-round.ensures in
-    subst (λ (s : Scan). c.round-round.result.own.first + c.loop-index.index < s.keys.now.size)
+    subst (λ (s : Scan _). c.round-round.result.own.first + c.loop-index.index < s.keys.now.size)
     (sym c.loop-index.invariant.same)
     (round_below scan c.args.leading c.loop-index.index (c.args.leading * n) c.round-round.result.own.first
     c.requires.scanned c.requires.below (omega (arith, c.loop-index-test.true, words)) first)
@@ -95,7 +95,7 @@ take_key-requires-clause-round g c =
     let whole : (c.round-round.result.own.first + c.loop-index.index) / n ≡ c.args.leading =
     ap (λ (f : ℕ). (f + c.loop-index.index) / n) first
     ∙ div-mul-add c.args.leading n c.loop-index.index (omega (arith, c.loop-index-test.true, words)) in
-    subst (λ (s : Scan).
+    subst (λ (s : Scan _).
     IsRound s.keys.now.accepted.now ((c.round-round.result.own.first + c.loop-index.index) / length (order_of s))
     c.round-round.result) (sym c.loop-index.invariant.same)
     (subst (λ (k : ℕ). IsRound scan.keys.now.accepted.now k c.round-round.result) (sym whole) c.round-round.ensures)
@@ -111,7 +111,7 @@ take_key-requires-clause-rest g c =
     let rest : (c.round-round.result.own.first + c.loop-index.index) % n ≡ c.loop-index.index =
     ap (λ (f : ℕ). (f + c.loop-index.index) % n) first
     ∙ mod-mul-add c.args.leading n c.loop-index.index (omega (arith, c.loop-index-test.true, words)) in
-    subst (λ (s : Scan). (c.round-round.result.own.first + c.loop-index.index) % length (order_of s)
+    subst (λ (s : Scan _). (c.round-round.result.own.first + c.loop-index.index) % length (order_of s)
     ≡ c.loop-index.index) (sym c.loop-index.invariant.same) rest
 
 pub loop-index-preserved : goal.loop-index-preserved
@@ -124,9 +124,8 @@ loop-index-preserved g c =
     omega (arith, first) in
     record {
       same = c.in_ok-take_key.ensures.same
-          ∙ ap (λ (one : Scan). record one { cells = c.take_key.new.self.cells }) c.loop-index.invariant.same;
+          ∙ ap (λ (one : Scan _). record one { cells = c.take_key.new.self.cells; steps = c.take_key.new.self.steps }) c.loop-index.invariant.same;
       scanned = subst (IsScanned c.take_key.new.self) next c.in_ok-take_key.ensures.scanned;
-      counted = omega (arith, c.loop-index.invariant.counted, c.in_ok-take_key.ensures.counted);
     }
 
 pub returns-clause-scanned : goal.returns-clause-scanned

@@ -18,7 +18,7 @@ use Rattle.drum_bound.proofs.Finished.{ends_soon, kept_after}
 use Rattle.drum_bound.proofs.scan.Scan.visit.Goals as goal
 
 pub overflow_sub-result : goal.overflow_sub-result
-overflow_sub-result c =
+overflow_sub-result g c =
     omega (
       arith,
       kept_after c.args.self.now c.args.origin.key c.args.begin c.requires.done c.requires.begun,
@@ -26,13 +26,13 @@ overflow_sub-result c =
     )
 
 pub overflow_cast-result : goal.overflow_cast-result
-overflow_cast-result c =
+overflow_cast-result g c =
     omega (
       arith,
       ends_soon c.args.self.now c.args.origin c.args.begin c.args.end.clock c.requires.from c.requires.begun,
     )
 
-place_read : (scan : Scan) (key index : ℕ) → key < size_in scan → index ≡ key % length (order_of scan)
+place_read : {L : Type 0} (scan : Scan L) (key index : ℕ) → key < size_in scan → index ≡ key % length (order_of scan)
     → slice_get (order_of scan) index ≡ Some (place_at (order_of scan) key)
 place_read scan key index below at =
     ap (slice_get (order_of scan)) at
@@ -40,7 +40,7 @@ place_read scan key index below at =
     (mod-lt key (some_places (setting_in scan).notes.marks (order_of scan) key below))
 
 pub unreachable-requires : goal.unreachable-requires
-unreachable-requires c =
+unreachable-requires g c =
     go c.requires.from.hop
     (sym c.requires.from.is ∙ c.in_default.ensures (place_at (order_of c.args.self.now) c.args.origin.key)
     (place_read c.args.self.now c.args.origin.key c.args.index c.requires.from.below c.requires.index))
@@ -49,9 +49,9 @@ unreachable-requires c =
     go hop e = cc
 
 pub returns : goal.returns
-returns c = λ hop is.
+returns g c = λ hop is.
     let scan = c.args.self.now in
-    let g : Setting = setting_in scan in
+    let setting : Setting = setting_in scan in
     let order : List ℕ = order_of scan in
     let key = c.args.origin.key in
     let begun = c.args.begin.clock - c.start_angle-angle.result in
@@ -85,8 +85,8 @@ returns c = λ hop is.
       begun = begun;
       ended = end;
     }) sum
-    ∙ ap (λ (h : Hop). visited (taken_of g order key h begun ended)) same
-    ∙ ap (λ (angle : ℕ). visited (taken_of g order key hop (c.args.begin.clock - angle) (c.args.end.clock - angle)))
+    ∙ ap (λ (h : Hop). visited (taken_of setting order key h begun ended)) same
+    ∙ ap (λ (angle : ℕ). visited (taken_of setting order key hop (c.args.begin.clock - angle) (c.args.end.clock - angle)))
     c.start_angle-angle.ensures
   where
     go : (one other : Hop) → Some one ≡ Some other → one ≡ other

@@ -19,14 +19,14 @@ use Rattle.drum_bound.specs.InCells.{kept_in}
 use Rattle.drum_bound.proofs.scan.Scan.walk.Goals as goal
 
 pub visit-visit-requires-clause-from : goal.visit-visit-requires-clause-from
-visit-visit-requires-clause-from c =
+visit-visit-requires-clause-from g c =
     let scan = c.args.self.now in
     origin_kept (setting_in scan) (order_of scan) (kept_in scan.cells) scan.cells.last (is_ordered scan c.requires)
     (starts_on_drum scan) c.requires.scanned
     c.loop-end.end c.loop-end.visits.items c.in-Some.origin c.loop-end.invariant.traced c.in-Some.is
 
 pub visit-visit-requires-clause-later : goal.visit-visit-requires-clause-later
-visit-visit-requires-clause-later c =
+visit-visit-requires-clause-later g c =
     let scan = c.args.self.now in
     let there : cell_at (kept_in scan.cells) c.in-Some.origin.key ≡ Some c.in-Some-kept_at.begin =
     sym c.kept_at.ensures ∙ ap (option_map (λ (kept : ℕ × Latest). kept.1)) c.in-Some-kept_at.is in
@@ -36,7 +36,7 @@ visit-visit-requires-clause-later c =
     there
 
 pub loop-end-preserved : goal.loop-end-preserved
-loop-end-preserved c =
+loop-end-preserved g c =
     let scan = c.args.self.now in
     let visits = c.loop-end.visits.items in
     let visit = c.visit-visit.result in
@@ -70,7 +70,7 @@ loop-end-preserved c =
     }
 
 pub returns-clause-walk : goal.returns-clause-walk
-returns-clause-walk c =
+returns-clause-walk g c =
     let scan = c.args.self.now in
     subst (λ (visits : List Visit).
     IsWalkOf (setting_in scan) (start_angle (setting_in scan).start)
@@ -79,3 +79,16 @@ returns-clause-walk c =
     (trace_whole (setting_in scan) (order_of scan) (kept_in scan.cells) scan.cells.last (is_ordered scan c.requires)
     (starts_on_drum scan) c.requires.scanned
     c.loop-end.end c.loop-end.visits.items c.loop-end.invariant.traced c.in_default.is)
+
+pub loop-end-smaller : goal.loop-end-smaller
+loop-end-smaller g c =
+    let scan = c.args.self.now in
+    let begin = c.in-Some-kept_at.begin in
+    let there : cell_at (kept_in scan.cells) c.in-Some.origin.key ≡ Some begin =
+    sym c.kept_at.ensures ∙ ap (option_map (λ (kept : ℕ × Latest). kept.1)) c.in-Some-kept_at.is in
+    omega (
+      arith,
+      ap key_after c.in-Some.is,
+      falls (setting_in scan) (order_of scan) (kept_in scan.cells) scan.cells.last (is_ordered scan c.requires)
+          (starts_on_drum scan) c.requires.scanned c.in-Some.origin begin there,
+    )

@@ -9,7 +9,7 @@ use Rattle.drum_bound.proofs.Traces.{IsTraced, key_after}
 use Rattle.drum_bound.proofs.scan.Scan.walk.Given as goal
 
 abbrev pub invariant-loop-end : goal.invariant-loop-end
-invariant-loop-end l = record {
+invariant-loop-end g l = record {
   traced : IsTraced (setting_in l.self) (order_of l.self) (kept_in l.self.cells) l.self.cells.last l.end l.visits.items;
   passes : ArePasses (marks_in l.self.keys.now) (map seen_visit (reverse l.visits.items)) l.passed;
   first : l.first % length (order_of l.self) ≡ 0;
@@ -17,4 +17,4 @@ invariant-loop-end l = record {
 }
 
 abbrev pub decreases-loop-end : goal.decreases-loop-end
-decreases-loop-end l = key_after l.end.origin
+decreases-loop-end g l = key_after l.end.origin

@@ -1,42 +1,43 @@
 //! Ends of hops, and their one maker.
 
-ghost use Rattle.std.specs.Prelude.{◌≡◌, ◌+◌, ◌%◌, ◌<◌, ◌≤◌, ◌^◌};
+ghost use Rattle.std.specs.Prelude.{◌≡◌, ◌+◌, ◌%◌, ◌<◌};
 
-use super::Steps;
 use crate::instruction_search::InstructionSearch;
 use crate::key_hop::KeyHop;
 use crate::latest::Latest;
 use crate::leap::Leap;
+use crate::scan::Scan;
 use drum_core::REVOLUTION;
 use std::sync::ledger::Ledger;
 
-/// The latest end of a hop from a key. [`End::of`] alone makes one, and counts it.
-#[derive(Drop)]
+/// The latest end of a hop from a key, which a scan makes at the hop's turn, and counts. It can't
+/// be dropped: [`Cells::raise`](crate::cells::Cells::raise), `stop` or `bar` has to spend it.
 pub struct End {
     clock: u64,
     origin: KeyHop,
 }
 
-impl End {
-    ghost use Rattle.drum_flow.specs.Walk.{Setting};
+impl<L: Ledger> Scan<'_, L> {
     ghost use Rattle.drum_bound.specs.EndOf.{latest_in};
-    ghost use Rattle.drum_bound.specs.SearchOf.{CanEnd, end_sought};
+    ghost use Rattle.drum_bound.specs.ScanOf.{IsReady, IsTurn, setting_in};
+    ghost use Rattle.drum_bound.specs.SearchOf.{end_sought};
 
     /// The end of a hop of the key whose instruction is sought, that of this number among the
-    /// key's: the latest that it can have.
+    /// key's, at its turn: the latest that it can have. No other function makes one.
     #[inline(always)]
-    pub fn of<L: Ledger>(
+    pub(in crate::scan) fn end(
+        &mut self,
         search: &InstructionSearch,
         number: usize,
         leap: &Leap,
-        steps: &mut Steps<L>,
     ) -> End
-        ghost setting: { Setting }
-        requires { CanEnd setting search.now number leap.now }
-        ensures latest { latest_in result ≡ end_sought setting search.now number leap.now }
-        ensures counted { steps.new ≡ steps.old + 1 }
+        requires ready { IsReady self.old search.now number leap.now }
+        requires turn { IsTurn self.old search.now.key number }
+        ensures latest { latest_in result
+            ≡ end_sought (setting_in self.old) search.now number leap.now }
+        ensures same { self.new ≡ record self.old { steps = self.old.steps + 1 } }
     {
-        steps.tick();
+        self.steps.tick();
         End {
             clock: search.found + u64::from(leap.time),
             origin: KeyHop {
@@ -45,6 +46,10 @@ impl End {
             },
         }
     }
+}
+
+impl End {
+    ghost use Rattle.drum_bound.specs.EndOf.{latest_in};
 
     /// Its clock.
     pub fn clock(&self) -> u64
@@ -68,13 +73,14 @@ impl End {
         self.origin
     }
 
-    /// What is kept of it.
-    pub fn latest(&self) -> Latest
-        ensures { result ≡ latest_in self.now }
+    /// What is kept of it. It is spent.
+    pub fn spend(self) -> Latest
+        ensures { result ≡ latest_in self }
     {
+        let End { clock, origin } = self;
         Latest {
-            clock: self.clock,
-            origin: Some(self.origin),
+            clock,
+            origin: Some(origin),
         }
     }
 }
