@@ -1,9 +1,12 @@
 //! A ceiling of a deck, with a walk beside it.
 
-ghost use Rattle.std.specs.Prelude.{IfOk, IfErr};
+ghost use Rattle.std.specs.Prelude.{◌≡◌, ◌≤◌, ◌⊎◌, IfOk, IfErr, IfSome};
 ghost use Rattle.drum_flow.specs.Executed.{AreAllNodes};
-ghost use Rattle.drum_flow.specs.Flow.{executed_in, nodes_of, of_flow, AreFound};
-ghost use Rattle.drum_rounds.specs.InRounds.{IsInRoundsOf};
+ghost use Rattle.drum_flow.specs.Flow.{deck_of, executed_in, nodes_of, notes_of, of_flow};
+ghost use Rattle.drum_flow.specs.Flow.{AreFound};
+ghost use Rattle.drum_flow.specs.SettingOf.{setting};
+ghost use Rattle.drum_rounds.specs.InRounds.{total_of, IsInRoundsOf};
+ghost use Rattle.drum_rounds.specs.OneHop.{NoWalkOfOneHopTakesLonger};
 ghost use Rattle.drum_ceiling.specs.CeilingOf.{IsCeilingRefusal};
 ghost use Rattle.drum_ceiling.specs.BracketOf.{IsBracketOf};
 
@@ -28,32 +31,31 @@ pub struct Bracket {
 }
 
 /// A walk, as long as the search finds one: by the rows of sites, by an order of them in which
-/// every edge without a mark goes on, and from that of the start.
-fn walk(
+/// every edge without a mark goes on, and from that of the start. `None` where it finds none.
+fn found_by(
     alloc: Global,
     by: &Setting<'_>,
     rows: &[SiteRow],
     order: &[usize],
     start: usize,
-) -> Result<InRounds, AllocError>
-    ensures { IfOk result (IsInRoundsOf by.now.deck.now by.now.times.now by.now.notes.now) }
+) -> Result<Option<InRounds>, AllocError>
+    ensures { IfOk result (λ made. IfSome made
+        (IsInRoundsOf by.now.deck.now by.now.times.now by.now.notes.now)) }
 {
     let pieces = find(alloc, by.times, by.notes.marks(), rows, order, start)?;
-    match by.weigh(alloc, pieces)? {
-        Some(walk) => Ok(walk),
-        None => by.without_hop(alloc),
-    }
+    by.weigh(alloc, pieces)
 }
 
 /// The same, where the deck with its notes is admitted.
-fn walk_along(
+fn found_along(
     alloc: Global,
     by: &Setting<'_>,
     accepted: &AcceptedFlow<'_>,
-) -> Result<InRounds, AllocError>
+) -> Result<Option<InRounds>, AllocError>
     requires nodes { of_flow AreAllNodes accepted.now.flow (nodes_of accepted.now.flow) }
     requires found { of_flow AreFound accepted.now.flow (executed_in accepted.now.flow) }
-    ensures { IfOk result (IsInRoundsOf by.now.deck.now by.now.times.now by.now.notes.now) }
+    ensures { IfOk result (λ made. IfSome made
+        (IsInRoundsOf by.now.deck.now by.now.times.now by.now.notes.now)) }
 {
     let flow = accepted.flow();
     let sites = Sites::of(alloc, flow)?;
@@ -62,13 +64,44 @@ fn walk_along(
     let order = sites.in_order(alloc, accepted.nodes())?;
     let angle = u64::from(flow.deck().start().number) % REVOLUTION;
     match sites.number(0, angle) {
-        Some(start) => walk(alloc, by, &rows, &order, start),
-        None => by.without_hop(alloc),
+        Some(start) => found_by(alloc, by, &rows, &order, start),
+        None => Ok(None),
+    }
+}
+
+/// The longest walk of one hop of an admitted deck; without a hop where there is none.
+fn one_hop(
+    alloc: Global,
+    times: &Times,
+    accepted: &AcceptedFlow<'_>,
+) -> Result<InRounds, AllocError>
+    requires found { of_flow AreFound accepted.now.flow (executed_in accepted.now.flow) }
+    ensures right { IfOk result (IsInRoundsOf (deck_of accepted.now.flow) times.now
+        (notes_of accepted.now.flow)) }
+    ensures longest { IfOk result (λ walk. NoWalkOfOneHopTakesLonger
+        (setting (deck_of accepted.now.flow) times.now (notes_of accepted.now.flow))
+        (total_of walk)) }
+{
+    let flow = accepted.flow();
+    let (deck, notes) = (flow.deck(), flow.notes());
+    let by = Setting { deck, times, notes };
+    by.longest_of_one_hop(alloc, flow.hops(deck.start()))
+}
+
+/// Of a walk that may have been found and the longest of one hop, the one that takes longer.
+fn longer_of(found: Option<InRounds>, one_hop: InRounds) -> InRounds
+    ensures either { (result ≡ one_hop) ⊎ (found ≡ Some result) }
+    ensures longer { total_of one_hop ≤ total_of result }
+{
+    match found {
+        Some(found) if found.total() >= one_hop.total() => found,
+        _ => one_hop,
     }
 }
 
 /// A ceiling of a deck with its timing table and notes, with a walk in rounds, each hop as long as
 /// it can be. No walk takes more than the ceiling; where this one takes as long, it is a worst one.
+/// It takes no less than any walk of one hop.
 ///
 /// # Errors
 ///
@@ -80,6 +113,7 @@ pub fn reached(alloc: Global, deck: &Deck, times: &Times, notes: &Notes) -> Resu
     let ceiling = ceiling(alloc, deck, times, notes)?;
     let accepted = AcceptedFlow::of_any_size(alloc, deck, notes)?;
     let by = Setting { deck, times, notes };
-    let walk = walk_along(alloc, &by, &accepted)?;
+    let found = found_along(alloc, &by, &accepted)?;
+    let walk = longer_of(found, one_hop(alloc, times, &accepted)?);
     Ok(Bracket { ceiling, walk })
 }
