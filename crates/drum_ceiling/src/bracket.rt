@@ -85,7 +85,8 @@ fn one_hop(
     let flow = accepted.flow();
     let (deck, notes) = (flow.deck(), flow.notes());
     let by = Setting { deck, times, notes };
-    by.longest_of_one_hop(alloc, flow.hops(deck.start()))
+    let hops = flow.hops(deck.start());
+    by.longest_of_one_hop(alloc, hops)
 }
 
 /// Of a walk that may have been found and the longest of one hop, the one that takes longer.

@@ -30,8 +30,8 @@ longest_of_one_hop-requires c =
     let there : Contains (executed_in own) (start_in (deck_of own)) =
     subst (λ (f : Flow). Contains (executed_in f) (start_in (deck_of f))) (sym is)
     (c.requires.found.all start (none_open (notes_of flow).calls, first_reached loads (notes_of flow) start)) in
-    let all : hops_left c.hops.result ≡ hops (loads_in (deck_of own)) (notes_of own) c.start.result.number =
-    c.hops.ensures.executed (subst (Contains (executed_in own)) (sym here) there) in
+    let all : hops_left c.hops-hops.result ≡ hops (loads_in (deck_of own)) (notes_of own) c.start.result.number =
+    c.hops-hops.ensures.executed (subst (Contains (executed_in own)) (sym here) there) in
     all ∙ ap (hops (loads_in (deck_of own)) (notes_of own)) here
     ∙ moved (λ d n. hops (loads_in (deck_of own)) (notes_of own) (start_in (deck_of own))
     ≡ hops (loads_in d) n (start_in d)) (deck_of own) deck (notes_of own) notes (sym deck_is) (sym notes_is) refl
