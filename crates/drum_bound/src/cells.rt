@@ -202,7 +202,9 @@ impl Cells {
 
     /// Spends the end of a hop that a full mark bars: it is kept nowhere.
     #[inline(always)]
-    pub fn bar(&self, end: End) {
+    pub fn bar(&mut self, end: End)
+        ensures { self.new ≡ self.old }
+    {
         end.spend();
     }
 }

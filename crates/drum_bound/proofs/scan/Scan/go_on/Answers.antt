@@ -2,13 +2,14 @@
 -- Else the first key of these counts and the index of the target are the key that the hop leads to,
 -- a later one, and its end is kept there if it is the latest.
 use Rattle.std.proofs.Common.{◌≡◌, ℕ, ◌+◌, ◌<◌, ◌≤◌, Some, inl, inr, refl, ap, sym, ◌∙◌, subst, arith}
+use Rattle.drum_bound.specs.declared.cells.Cells.{Cells}
 use Rattle.drum_bound.specs.declared.key_hop.KeyHop.{KeyHop}
 use Rattle.drum_bound.specs.declared.latest.Latest.{Latest}
 use Rattle.drum_bound.specs.SearchOf.{hop_sought}
 use Rattle.drum_bound.specs.Keys.{place_at}
 use Rattle.drum_bound.specs.RowOf.{counts_number}
 use Rattle.drum_bound.specs.Scanned.{later, raised}
-use Rattle.drum_bound.specs.ScanOf.{setting_in, order_of}
+use Rattle.drum_bound.specs.ScanOf.{setting_in, order_of, AreCells}
 use Rattle.drum_bound.specs.InCells.{kept_in}
 use Rattle.drum_bound.proofs.GoesOnto.{barred, few_marks, led_to, onto_counts, onto_key, onward}
 use Rattle.drum_bound.proofs.Sought.{sought_after}
@@ -24,9 +25,14 @@ returns-in_default-clause-goes g c =
     inl (
       barred c.args.self.now c.args.round.now c.args.search.now c.args.number c.args.leap.now c.args.next.number
           c.requires.ready c.requires.round c.requires.next (sym c.after.ensures ∙ c.in_default.is),
-      refl,
-      refl,
+      ap (λ (cells : Cells). kept_in cells) c.bar.ensures,
+      ap (λ (cells : Cells). cells.last) c.bar.ensures,
     )
+
+pub returns-in_default-clause-cells : goal.returns-in_default-clause-cells
+returns-in_default-clause-cells g c =
+    let scan = c.args.self.now in
+    subst (AreCells (setting_in scan) (order_of scan)) (sym c.bar.ensures) c.requires.ready.cells
 
 pub overflow_add-onto : goal.overflow_add-onto
 overflow_add-onto g c =
