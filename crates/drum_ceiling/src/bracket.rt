@@ -93,6 +93,7 @@ fn one_hop(
 fn longer_of(found: Option<InRounds>, one_hop: InRounds) -> InRounds
     ensures either { (result ≡ one_hop) ⊎ (found ≡ Some result) }
     ensures longer { total_of one_hop ≤ total_of result }
+    ensures no_shorter { IfSome found (λ walk. total_of walk ≤ total_of result) }
 {
     match found {
         Some(found) if found.total() >= one_hop.total() => found,
