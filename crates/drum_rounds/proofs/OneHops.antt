@@ -1,9 +1,8 @@
 -- Walks of one hop: which hops of the start are such, and that none takes longer than from the angle behind the start's.
-use Rattle.std.proofs.Common.{◌≡◌, ℕ, zero, suc, ◌+◌, ◌-◌, ◌*◌, ◌%◌, ◌^◌, ◌<◌, ◌≤◌, List, [], ◌∷◌, ◌++◌, length, map, get_or}
+use Rattle.std.proofs.Common.{◌≡◌, ℕ, zero, suc, ◌+◌, ◌-◌, ◌%◌, ◌<◌, ◌≤◌, List, [], ◌∷◌, ◌++◌, map}
 use Rattle.std.proofs.Common.{refl, ap, sym, ◌∙◌, subst, arith, Bool, true, false, Option, Some, None, ◌⊎◌, inl, inr}
 use Rattle.std.specs.Prelude.{slice_index, sum_by, is_some, Contains, IfSome, MatchBool, MatchOption}
 use Rattle.std.proofs.lemmas.List.{length-map}
-use Rattle.drum_core.specs.Op.{op_of}
 use Rattle.drum_times.specs.declared.notes.mark.Mark.{Mark}
 use Rattle.drum_machine.specs.declared.counts.Counts.{Counts}
 use Rattle.drum_machine.specs.Calls.{none_open, GoBack, MayGo}
@@ -17,18 +16,18 @@ use Rattle.drum_order.proofs.Lists.{contains_cases, contains_none, contains_ther
 use Rattle.drum_flow.specs.Hops.{edge_between, hops, Hop}
 use Rattle.drum_flow.specs.Longest.{longest}
 use Rattle.drum_flow.specs.Profile.{MayEnd}
-use Rattle.drum_flow.specs.Walk.{edge_taken, edges_taken, FollowHop, IsWalk, IsWalkFrom, Setting, Taken}
+use Rattle.drum_flow.specs.Walk.{edge_taken, FollowHop, IsWalk, IsWalkFrom, Setting, Taken}
 use Rattle.drum_flow.proofs.FromAngles.{found_angle, leap_time}
 use Rattle.drum_flow.proofs.LongestLaws.{first_fetch, first_fetch_behind, longest_from_found, no_later}
 use Rattle.drum_flow.proofs.Profiles.{hop_may_end}
 use Rattle.drum_walks.specs.declared.piece.Piece.{Piece}
 use Rattle.drum_walks.specs.declared.piece.Piece.TheVariants as piece
 use Rattle.drum_walks.specs.declared.piece.Placed.{Placed}
-use Rattle.drum_walks.specs.Pieces.{placed, seen_placed, spelled_of, PlacedHop}
+use Rattle.drum_walks.specs.Pieces.{seen_placed, spelled_of, PlacedHop}
 use Rattle.drum_rows.specs.Marked.{mark_by}
 use Rattle.drum_rounds.specs.Change.{passes_by}
 use Rattle.drum_rounds.specs.InRounds.{takes, AreTold, SpellOut}
-use Rattle.drum_rounds.specs.FirstHop.{first_placed, longest_time, AreNoLonger, IsFirst, MayBegin}
+use Rattle.drum_rounds.specs.FirstHop.{first_placed, AreNoLonger, IsFirst, MayBegin}
 use Rattle.drum_rounds.specs.OneHop.{NoWalkOfOneHopTakesLonger}
 use Rattle.drum_rounds.specs.Stretch.{changes_by, edges_placed, laid, laid_one}
 use Rattle.drum_rounds.proofs.Comings.{hop_passes, timed}

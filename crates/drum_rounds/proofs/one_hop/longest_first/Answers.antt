@@ -1,6 +1,5 @@
-use Rattle.std.proofs.Common.{◌≡◌, ℕ, List, ◌∷◌, sym, ap, ◌∙◌, subst, refl, arith}
+use Rattle.std.proofs.Common.{◌≡◌, List, ◌∷◌, sym, ap, ◌∙◌, subst, refl, arith}
 use Rattle.std.specs.Prelude.{Contains}
-use Rattle.drum_times.specs.Entries.{entry_in}
 use Rattle.drum_order.proofs.Lists.{contains_here}
 use Rattle.drum_flow.specs.Hops.{hops, Hop}
 use Rattle.drum_flow.specs.HopsLeft.{hops_left}

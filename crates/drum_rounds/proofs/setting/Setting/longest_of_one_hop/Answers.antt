@@ -1,10 +1,10 @@
-use Rattle.std.proofs.Common.{◌≡◌, ℕ, Some, None, sym, subst}
+use Rattle.std.proofs.Common.{◌≡◌, sym, subst}
 use Rattle.std.proofs.lemmas.Result.{IfOk-weaker}
 use Rattle.drum_times.specs.Entries.{entry_in}
 use Rattle.drum_flow.specs.Hops.{hops}
 use Rattle.drum_flow.specs.SettingOf.{setting}
 use Rattle.drum_walks.specs.Pieces.{seen_placed}
-use Rattle.drum_rounds.specs.FirstHop.{longest_time, AreNoLonger}
+use Rattle.drum_rounds.specs.FirstHop.{AreNoLonger}
 use Rattle.drum_rounds.specs.InRounds.{takes, total_of}
 use Rattle.drum_rounds.specs.OneHop.{NoWalkOfOneHopTakesLonger}
 use Rattle.drum_rounds.proofs.OneHops.{none_longer}
