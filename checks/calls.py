@@ -1,5 +1,5 @@
 """The calls of long notes, as a document says them, and what is open at their exits: the rule of
-crates/drum_machine/specs/Calls.antt, in plain words. The other scripts of checks/ take it from
+crates/machine_steps/specs/Calls.antt, in plain words. The other scripts of checks/ take it from
 here."""
 
 from collections import namedtuple

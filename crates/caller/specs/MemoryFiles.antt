@@ -2,7 +2,7 @@
 use Rattle.std.specs.Prelude.{ℕ, List, [], ◌∷◌, Option, Some, None, string_bytes}
 use Rattle.std.specs.Prelude.{if◌then◌else◌}
 use Rattle.std.specs.Str.{bytes_eq}
-use Rattle.drum_documents.specs.Asked.{Asked, reading, returned, sought}
+use Rattle.read_documents.specs.Asked.{Asked, reading, returned, sought}
 use Rattle.caller.specs.declared.memory_files.Event.{Event}
 use Rattle.caller.specs.declared.memory_files.Event.TheVariants.{Sought, Returned}
 use Rattle.caller.specs.declared.memory_files.File.{File}

@@ -5,7 +5,7 @@
 
 mod memory_files;
 
-use drum_tool::{Reading, analyse, read_deck, read_notes, read_times};
+use program_run::{Reading, analyse, read_deck, read_notes, read_times};
 use std::fs::{self, File};
 
 fn main(rt: HostRuntime) -> anyhow::Result<()> {

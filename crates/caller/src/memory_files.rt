@@ -4,13 +4,13 @@
 ghost use Rattle.std.specs.Prelude.{◌≡◌, ◌^◌, ◌≤◌, ℕ, [], ◌∷◌, ◌++◌, Option, Some, IfSome};
 ghost use Rattle.std.specs.Prelude.{IsSome, map, option_map};
 ghost use Rattle.std.specs.Io.KnownBytes.{Appends};
-ghost use Rattle.drum_lines.specs.BoundText.{bound_text};
-ghost use Rattle.drum_tool.specs.BoundOfFiles.{AreNames, IsBoundOfFiles};
+ghost use Rattle.print_lines.specs.BoundText.{bound_text};
+ghost use Rattle.program_run.specs.BoundOfFiles.{AreNames, IsBoundOfFiles};
 ghost use Rattle.caller.specs.MemoryFiles.{asked_of, text_of};
 
-use drum_devices::{Input, Output, Reading};
-use drum_tool::laws::{bound_is_of_the_files, no_fault_is_done};
-use drum_tool::{Source, Status, run};
+use base_devices::{Input, Output, Reading};
+use program_run::laws::{bound_is_of_the_files, no_fault_is_done};
+use program_run::{Source, Status, run};
 use std::alloc::Global;
 
 /// A file in memory.

@@ -2,8 +2,8 @@
 
 ghost use Rattle.std.specs.Prelude.{None};
 
-use drum_devices::{Input, Reading};
-use drum_tool::Source;
+use base_devices::{Input, Reading};
+use program_run::Source;
 use std::fs::File;
 
 /// The file system. No contract can tell what a file holds.

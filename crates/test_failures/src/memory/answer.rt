@@ -1,12 +1,12 @@
 //! What a call answered.
 
 use crate::page::Page;
-use drum_bound::Refusal;
-use drum_deck::DeckFault;
-use drum_devices::WholeError;
-use drum_emulator::Memory;
-use drum_times::NoteFault;
-use drum_tool::{Fault, InputFault, Status};
+use base_devices::WholeError;
+use base_notes::NoteFault;
+use bound_scan::Refusal;
+use machine_emulator::Memory;
+use program_run::{Fault, InputFault, Status};
+use read_decks::DeckFault;
 use std::alloc::AllocError;
 use std::fmt::Debug;
 

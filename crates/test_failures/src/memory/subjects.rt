@@ -3,10 +3,10 @@
 use crate::texts::{
     BACK, BOTH_ROADS, BRANCH_BACK, LOOPS, NESTED, NOTES, ROADS, TIMES, TWO_ROADS, TWO_WORDS,
 };
-use drum_deck::read_deck;
-use drum_devices::Reading;
-use drum_toml::{read_notes, read_times};
-use drum_tool::Documents;
+use base_devices::Reading;
+use program_run::Documents;
+use read_decks::read_deck;
+use read_toml::{read_notes, read_times};
 use std::alloc::{AllocError, Global};
 use std::test::Fail;
 

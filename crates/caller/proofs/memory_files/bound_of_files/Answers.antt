@@ -2,13 +2,13 @@
 -- that no fault was told, so by the contract of `run` the line that went out is that of the bound
 -- of what they hold.
 use Rattle.std.proofs.Common.{◌≡◌, ℕ, ◌+◌, List, None, Some, ap, sym, ◌∙◌, subst, inl, inr, arith}
-use Rattle.drum_lines.specs.declared.status.Status.TheVariants.{Done, Failed}
-use Rattle.drum_lines.specs.Output.{Tells}
-use Rattle.drum_lines.specs.Reply.{Reply}
+use Rattle.print_lines.specs.declared.status.Status.TheVariants.{Done, Failed}
+use Rattle.print_lines.specs.Output.{Tells}
+use Rattle.print_lines.specs.Reply.{Reply}
 use Rattle.caller.specs.MemoryFiles.{text_of}
 use Rattle.caller.specs.declared.memory_files.File.{File}
-use Rattle.drum_lines.specs.declared.part.Part.TheVariants as part
-use Rattle.drum_documents.specs.Files.{Contents}
+use Rattle.print_lines.specs.declared.part.Part.TheVariants as part
+use Rattle.read_documents.specs.Files.{Contents}
 use Rattle.caller.proofs.memory_files.bound_of_files.Goals as goal
 
 -- what the files of these names hold

@@ -1,0 +1,57 @@
+-- Of Keys::key_of: the number of the counts is below that of all counts, and the index below that
+-- of the locations. So their number is a key, and too small to overflow.
+use Rattle.std.proofs.Common.{◌≡◌, ℕ, ◌+◌, ◌*◌, List, length, sym, ap, ◌∙◌, subst, arith}
+use Rattle.base_notes.specs.declared.notes.mark.Mark.{Mark}
+use Rattle.machine_steps.specs.CountsIn.{counts_in}
+use Rattle.flow_graph.specs.Flow.{notes_of}
+use Rattle.flow_graph.specs.Passes.{leading}
+use Rattle.flow_acceptance.specs.OrderedFlow.{in_order}
+use Rattle.bound_scan.specs.Keys.{IsKey}
+use Rattle.bound_scan.proofs.Nodes.{key_of_place, as_long, small_number, small_product}
+use Rattle.bound_scan.proofs.keys.Keys.key_of.Goals as goal
+
+pub overflow_mul-result : goal.overflow_mul-result
+overflow_mul-result c =
+    let marks = (notes_of c.args.self.now.accepted.now.flow).marks in
+    let order = in_order c.args.self.now.accepted.now in
+    let counts = counts_in c.args.counts marks in
+    let lead : c.leading.result ≡ leading marks counts =
+    c.leading.ensures ∙ ap (λ (all : List Mark). leading all (counts_in c.args.counts all)) c.marks.ensures.all in
+    let words : c.len.result ≡ length order =
+    as_long c.args.self.now c.len.result c.requires.keys c.len.ensures in
+    let product : c.leading.result * c.len.result ≡ leading marks counts * length order =
+    ap (λ (n : ℕ). n * c.len.result) lead ∙ ap (λ (n : ℕ). leading marks counts * n) words in
+    omega (arith, product, small_product marks order counts c.requires.within c.requires.keys.ordered.0.few)
+
+pub overflow_add-result : goal.overflow_add-result
+overflow_add-result c =
+    let marks = (notes_of c.args.self.now.accepted.now.flow).marks in
+    let order = in_order c.args.self.now.accepted.now in
+    let counts = counts_in c.args.counts marks in
+    let lead : c.leading.result ≡ leading marks counts =
+    c.leading.ensures ∙ ap (λ (all : List Mark). leading all (counts_in c.args.counts all)) c.marks.ensures.all in
+    let words : c.len.result ≡ length order =
+    as_long c.args.self.now c.len.result c.requires.keys c.len.ensures in
+    let product : c.leading.result * c.len.result ≡ leading marks counts * length order =
+    ap (λ (n : ℕ). n * c.len.result) lead ∙ ap (λ (n : ℕ). leading marks counts * n) words in
+    omega (
+      arith,
+      product,
+      small_number marks order counts c.index_of.result c.args.location.number c.requires.within
+          c.requires.keys.ordered.0.few c.index_of.ensures,
+    )
+
+pub returns : goal.returns
+returns c =
+    let marks = (notes_of c.args.self.now.accepted.now.flow).marks in
+    let order = in_order c.args.self.now.accepted.now in
+    let counts = counts_in c.args.counts marks in
+    let lead : c.leading.result ≡ leading marks counts =
+    c.leading.ensures ∙ ap (λ (all : List Mark). leading all (counts_in c.args.counts all)) c.marks.ensures.all in
+    let words : c.len.result ≡ length order =
+    as_long c.args.self.now c.len.result c.requires.keys c.len.ensures in
+    let product : c.leading.result * c.len.result ≡ leading marks counts * length order =
+    ap (λ (n : ℕ). n * c.len.result) lead ∙ ap (λ (n : ℕ). leading marks counts * n) words in
+    subst (λ (key : ℕ). IsKey marks order key c.args.location.number counts)
+    (ap (λ (n : ℕ). n + c.index_of.result) (sym product))
+    (key_of_place marks order counts c.index_of.result c.args.location.number c.requires.within c.index_of.ensures)

@@ -1,0 +1,9 @@
+use Rattle.std.proofs.Common.{arith}
+use Rattle.std.proofs.lemmas.Grind.{common_steps}
+use Rattle.check_findings.proofs.marking.put_all_further.Goals as goal
+
+pub loop-finding-preserved : goal.loop-finding-preserved
+loop-finding-preserved g c = grind (arith, common_steps)
+
+pub returns : goal.returns
+returns g c = grind (arith, common_steps)

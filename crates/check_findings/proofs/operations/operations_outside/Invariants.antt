@@ -1,0 +1,15 @@
+use Rattle.std.proofs.Common.{◌≡◌}
+use Rattle.std.specs.Prelude.{flat_map}
+use Rattle.read_decks.specs.InDeck.{loads_in}
+use Rattle.base_notes.specs.Allowed.{matching}
+use Rattle.flow_graph.specs.Executed.{with_new}
+use Rattle.flow_graph.specs.Patterns.{patterns_left}
+use Rattle.check_findings.specs.FoundAt as said
+use Rattle.check_findings.proofs.Outsides.{outside_of}
+use Rattle.check_findings.proofs.operations.operations_outside.Given as goal
+
+-- what is there, and what the patterns that are left will add, is what all of them add
+abbrev pub invariant-loop-pattern : goal.invariant-loop-pattern
+invariant-loop-pattern l =
+    with_new l.operations.items (flat_map outside_of (flat_map matching (patterns_left l.pattern-iterator)))
+    ≡ said.operations_outside (loads_in l.deck) l.notes l.fn.location.number

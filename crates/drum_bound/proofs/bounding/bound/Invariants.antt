@@ -1,4 +1,0 @@
-use Rattle.drum_bound.proofs.bounding.bound.Given as goal
-
-abbrev pub ghosts-bound_from : goal.ghosts-bound_from
-ghosts-bound_from a = record { name = a.blank.name; parts = a.blank.parts }

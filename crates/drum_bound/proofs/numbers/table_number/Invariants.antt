@@ -1,8 +1,0 @@
-use Rattle.std.proofs.Common.{◌≡◌, drop}
-use Rattle.drum_bound.specs.Table.{number_of}
-use Rattle.drum_bound.proofs.CountLoops.{counts_from}
-use Rattle.drum_bound.proofs.numbers.table_number.Given as goal
-
--- it is the number of the counts from this place on
-abbrev pub invariant-loop-place : goal.invariant-loop-place
-invariant-loop-place l = l.number ≡ number_of (drop l.place l.marks) (counts_from l.marks l.place l.counts.passes)

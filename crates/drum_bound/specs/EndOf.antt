@@ -1,8 +1,0 @@
--- The end of a hop, as it is kept.
-use Rattle.std.specs.Prelude.{Some}
-use Rattle.drum_bound.specs.declared.scan.steps.end.End.{End}
-use Rattle.drum_bound.specs.declared.latest.Latest.{Latest}
-
--- its clock, and the key and the hop that it is of
-abbrev pub latest_in : End → Latest
-latest_in end = record { clock = end.clock; origin = Some end.origin }

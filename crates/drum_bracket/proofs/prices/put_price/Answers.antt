@@ -1,9 +1,0 @@
-use Rattle.std.proofs.Common.{append_assoc}
-use Rattle.drum_sheet.proofs.Passing.{◌⊳◌, passes_as}
-use Rattle.drum_bracket.proofs.prices.put_price.Goals as goal
-
-pub returns : goal.returns
-returns g c =
-    passes_as (simp append_assoc)
-    (c.put.ensures ⊳ c.put_location.ensures ⊳ c.put-2.ensures ⊳ c.put_location-2.ensures ⊳ c.put_named.ensures
-    ⊳ c.put_named-2.ensures ⊳ c.put_name.ensures ⊳ c.put-3.ensures)

@@ -1,7 +1,0 @@
-use Rattle.std.specs.Prelude.{All}
-use Rattle.drum_check.specs.KnownInside.{IsKnown}
-use Rattle.drum_check.proofs.nesting.Nesting.of.Given as goal
-
--- what is known so far is right
-abbrev pub invariant-loop-outer : goal.invariant-loop-outer
-invariant-loop-outer l = All (IsKnown l.flow) l.known.items

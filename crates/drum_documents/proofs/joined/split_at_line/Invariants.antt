@@ -1,7 +1,0 @@
-use Rattle.std.proofs.Common.{ℕ, ◌<◌}
-use Rattle.drum_documents.proofs.Cuts.{BeginsAt}
-use Rattle.drum_documents.proofs.joined.split_at_line.Given as goal
-
--- no line so far is the mark
-abbrev pub invariant-loop-at : goal.invariant-loop-at
-invariant-loop-at l = (k : ℕ) → k < l.at → ¬ BeginsAt l.mark l.text k

@@ -1,5 +1,0 @@
-use Rattle.drum_drawing.proofs.Appending.{◌⊳◌}
-use Rattle.drum_drawing.proofs.heading.begin.Goals as goal
-
-pub returns : goal.returns
-returns c = c.draw_element.ensures ⊳ c.draw_heading.ensures

@@ -1,6 +1,0 @@
-use Rattle.drum_drawing.proofs.Appending.{◌⊳◌}
-use Rattle.drum_drawing.proofs.heading.draw_title.Goals as goal
-
-pub returns : goal.returns
-returns c =
-    c.push.ensures ⊳ c.push-2.ensures ⊳ c.push-3.ensures ⊳ c.push_number.ensures ⊳ c.push-4.ensures

@@ -1,7 +1,0 @@
-use Rattle.std.proofs.Common.{◌≡◌, ◌+◌, ◌-◌, ◌*◌, ◌≤◌}
-use Rattle.drum_machine.specs.Timing.{digit_sum}
-use Rattle.drum_emulator.proofs.arithmetic.digit_sum.Given as goal
-
--- what is summed up and what is left add up to the whole
-abbrev pub invariant-loop : goal.invariant-loop
-invariant-loop l = (l.sum + digit_sum (10 - l.counter) l.left ≡ digit_sum 10 l.number) × (l.sum ≤ 9 * l.counter)

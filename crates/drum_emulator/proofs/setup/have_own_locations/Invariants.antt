@@ -1,5 +1,0 @@
-use Rattle.drum_emulator.proofs.OwnLocations.{OwnBelow}
-use Rattle.drum_emulator.proofs.setup.have_own_locations.Given as goal
-
-abbrev pub invariant-loop-place : goal.invariant-loop-place
-invariant-loop-place l = OwnBelow l.words l.place

@@ -1,8 +1,0 @@
-use Rattle.drum_faults.specs.DeckFaults.{SaysStart}
-use Rattle.drum_faults.proofs.Passed.{PassedSome}
-use Rattle.drum_faults.proofs.faults_of_deck.has_start.Given as goal
-
-abbrev pub invariant-loop-line : goal.invariant-loop-line
-invariant-loop-line l = record {
-  passed : PassedSome SaysStart l.text l.line-iterator.rest.now;
-}

@@ -1,8 +1,0 @@
-use Rattle.std.proofs.Common.{◌≡◌, flat_map, map, take}
-use Rattle.drum_times.specs.EdgeOf.{edge_of}
-use Rattle.drum_times.specs.Marks.{edges_of}
-use Rattle.drum_finding.proofs.edges.marked_edges.Given as goal
-
--- the edges of the marks so far
-abbrev pub invariant-loop-mark : goal.invariant-loop-mark
-invariant-loop-mark l = map edge_of l.edges.items ≡ flat_map edges_of (take l.mark-index l.flow.notes.now.marks)

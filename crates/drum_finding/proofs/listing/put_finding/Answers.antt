@@ -1,4 +1,0 @@
-use Rattle.drum_finding.proofs.listing.put_finding.Goals as goal
-
-pub returns-in-UnusedMark : goal.returns-in-UnusedMark
-returns-in-UnusedMark g c = rw c.in-UnusedMark.is c.put_locations-in-UnusedMark.ensures

@@ -1,5 +1,0 @@
-use Rattle.drum_sheet.proofs.Passing.{◌⊳◌}
-use Rattle.drum_finding.proofs.marking.put_long.Goals as goal
-
-pub returns-then-long : goal.returns-then-long
-returns-then-long g c = rw c.if-long.true (c.put.ensures ⊳ c.put-then-long.ensures)

@@ -1,4 +1,0 @@
-use Rattle.drum_finding.proofs.marking.put_within.Goals as goal
-
-pub returns-in-SeveralWays : goal.returns-in-SeveralWays
-returns-in-SeveralWays g c = rw c.in-SeveralWays.is c.put-in-SeveralWays.ensures

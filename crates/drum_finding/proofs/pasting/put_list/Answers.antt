@@ -1,9 +1,0 @@
-use Rattle.std.proofs.Common.{ap}
-use Rattle.std.specs.Prelude.{decimal}
-use Rattle.drum_sheet.proofs.Passing.{◌⊳◌, passes_as}
-use Rattle.drum_finding.proofs.pasting.put_list.Goals as goal
-
-pub returns : goal.returns
-returns g c =
-    c.put.ensures ⊳ passes_as (ap decimal c.number.ensures) c.put_number.ensures ⊳ c.put-2.ensures
-    ⊳ c.put_pattern.ensures ⊳ c.put_comment.ensures

@@ -1,5 +1,0 @@
-use Rattle.drum_sheet.proofs.Passing.{◌⊳◌}
-use Rattle.drum_graph.proofs.arrows.put_word.Goals as goal
-
-pub returns : goal.returns
-returns g c = c.put_location.ensures ⊳ c.put.ensures ⊳ c.put_location-2.ensures ⊳ c.put-2.ensures

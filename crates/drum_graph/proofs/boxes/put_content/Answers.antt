@@ -1,9 +1,0 @@
-use Rattle.std.proofs.Common.{arith}
-use Rattle.std.proofs.lemmas.Grind.{common_steps}
-use Rattle.drum_graph.proofs.boxes.put_content.Goals as goal
-
-pub returns-else-is_empty : goal.returns-else-is_empty
-returns-else-is_empty g c = grind (arith, common_steps)
-
-pub returns-then-is_empty : goal.returns-then-is_empty
-returns-then-is_empty g c = grind (arith, common_steps)

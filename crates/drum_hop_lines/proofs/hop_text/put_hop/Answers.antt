@@ -1,8 +1,0 @@
-use Rattle.std.proofs.Common.{append_assoc}
-use Rattle.drum_sheet.proofs.Passing.{◌⊳◌, passes_as}
-use Rattle.drum_hop_lines.proofs.hop_text.put_hop.Goals as goal
-
-pub returns : goal.returns
-returns g c =
-    passes_as (simp append_assoc)
-    (c.put_location.ensures ⊳ c.put_instruction.ensures ⊳ c.put_way.ensures ⊳ c.put_named.ensures)

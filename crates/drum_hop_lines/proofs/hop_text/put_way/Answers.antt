@@ -1,5 +1,0 @@
-use Rattle.drum_sheet.proofs.Passing.{◌⊳◌}
-use Rattle.drum_hop_lines.proofs.hop_text.put_way.Goals as goal
-
-pub returns-in-To : goal.returns-in-To
-returns-in-To g c = rw c.in-To.is (c.put-in-To.ensures ⊳ c.put_location.ensures)

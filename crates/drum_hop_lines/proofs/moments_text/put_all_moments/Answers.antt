@@ -1,7 +1,0 @@
-use Rattle.drum_sheet.proofs.Passing.{◌⊳◌}
-use Rattle.drum_hop_lines.proofs.moments_text.put_all_moments.Goals as goal
-
-pub returns : goal.returns
-returns g c =
-    c.put.ensures ⊳ c.put_number.ensures ⊳ c.put_moment.ensures ⊳ c.put_moment-2.ensures ⊳ c.put-2.ensures
-    ⊳ c.put_number-2.ensures ⊳ c.put-3.ensures

@@ -1,7 +1,0 @@
-use Rattle.drum_sheet.proofs.Passing.{passes_as}
-use Rattle.drum_hop_lines.proofs.Lines.{times_told}
-use Rattle.drum_hop_lines.proofs.moments_text.put_times.Goals as goal
-
-pub returns : goal.returns
-returns g c =
-    passes_as (times_told c.args.moments.now c.args.ended c.args.last.now) c.put_all_moments.ensures

@@ -1,5 +1,0 @@
-use Rattle.drum_laws.proofs.Refusals.{only_memory}
-use Rattle.drum_laws.proofs.acceptance.accepted_is_not_refused.Goals as goal
-
-pub returns : goal.returns
-returns c = only_memory

@@ -1,6 +1,0 @@
-use Rattle.std.proofs.Common.{length}
-use Rattle.drum_acceptance.proofs.Products.{told_of_few}
-use Rattle.drum_laws.proofs.acceptance.few_marks_are_told.Goals as goal
-
-pub returns : goal.returns
-returns c executed marks = told_of_few (length executed) marks

@@ -1,5 +1,0 @@
-use Rattle.drum_laws.proofs.WalkPasses.{walk_passes}
-use Rattle.drum_laws.proofs.flow.passes_are_few.Goals as goal
-
-pub returns : goal.returns
-returns c = walk_passes

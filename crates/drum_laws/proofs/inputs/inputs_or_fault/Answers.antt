@@ -1,5 +1,0 @@
-use Rattle.drum_laws.proofs.InputsOrFault as lemmas
-use Rattle.drum_laws.proofs.inputs.inputs_or_fault.Goals as goal
-
-pub returns : goal.returns
-returns c = lemmas.inputs_or_fault

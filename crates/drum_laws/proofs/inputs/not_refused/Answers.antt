@@ -1,5 +1,0 @@
-use Rattle.drum_inputs.proofs.Refusals.{inputs_not_refused}
-use Rattle.drum_laws.proofs.inputs.not_refused.Goals as goal
-
-pub returns : goal.returns
-returns c = inputs_not_refused

@@ -1,5 +1,0 @@
-use Rattle.drum_machine.proofs.Ends.{ends_by_its_own}
-use Rattle.drum_laws.proofs.machine.ends_by_a_way.Goals as goal
-
-pub returns : goal.returns
-returns c = ends_by_its_own

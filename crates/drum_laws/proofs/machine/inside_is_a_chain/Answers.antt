@@ -1,5 +1,0 @@
-use Rattle.drum_machine.proofs.SinceLaws.{inside_iff}
-use Rattle.drum_laws.proofs.machine.inside_is_a_chain.Goals as goal
-
-pub returns : goal.returns
-returns c = inside_iff

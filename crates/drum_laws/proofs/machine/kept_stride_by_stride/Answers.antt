@@ -1,5 +1,0 @@
-use Rattle.drum_machine.proofs.SinceLaws.{kept_iff}
-use Rattle.drum_laws.proofs.machine.kept_stride_by_stride.Goals as goal
-
-pub returns : goal.returns
-returns c = kept_iff

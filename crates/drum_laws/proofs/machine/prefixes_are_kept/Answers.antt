@@ -1,5 +1,0 @@
-use Rattle.drum_laws.proofs.Prefixes.{kept_prefix}
-use Rattle.drum_laws.proofs.machine.prefixes_are_kept.Goals as goal
-
-pub returns : goal.returns
-returns c = kept_prefix

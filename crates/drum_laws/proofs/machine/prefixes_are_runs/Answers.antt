@@ -1,5 +1,0 @@
-use Rattle.drum_laws.proofs.Prefixes.{run_prefix}
-use Rattle.drum_laws.proofs.machine.prefixes_are_runs.Goals as goal
-
-pub returns : goal.returns
-returns c = run_prefix

@@ -1,5 +1,0 @@
-use Rattle.drum_replay.proofs.Seen.{meeting}
-use Rattle.drum_laws.proofs.replay.meets_what_matches.Goals as goal
-
-pub returns : goal.returns
-returns c = meeting

@@ -1,8 +1,0 @@
-use Rattle.std.proofs.Common.{ap, flat_map}
-use Rattle.drum_lines.specs.FaultText.{next_location}
-use Rattle.drum_sheet.proofs.Passing.{◌⊳◌, passes_as}
-use Rattle.drum_lines.proofs.print.refusal_line.put_cycle.Goals as goal
-
-pub returns : goal.returns
-returns g c =
-    c.put.ensures ⊳ passes_as (ap (flat_map next_location) c.deref.ensures.value) c.put_locations.ensures ⊳ c.put-2.ensures

@@ -1,7 +1,0 @@
-use Rattle.drum_sheet.proofs.Passing.{◌⊳◌, passes_as}
-use Rattle.drum_lines.proofs.print.verdict_line.put_kept.Goals as goal
-
-pub returns : goal.returns
-returns g c =
-    c.put.ensures ⊳ c.put_number.ensures ⊳ passes_as c.word_of.ensures c.put-2.ensures ⊳ c.put_number-2.ensures ⊳ c.put-3.ensures
-    ⊳ passes_as c.name_of.ensures c.put-4.ensures ⊳ c.put-5.ensures

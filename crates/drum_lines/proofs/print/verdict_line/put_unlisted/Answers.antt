@@ -1,9 +1,0 @@
-use Rattle.std.proofs.Common.{append_assoc}
-use Rattle.drum_sheet.proofs.Passing.{◌⊳◌, passes_as}
-use Rattle.drum_lines.proofs.print.verdict_line.put_unlisted.Goals as goal
-
-pub returns : goal.returns
-returns g c =
-    passes_as (simp append_assoc)
-    (c.put.ensures ⊳ c.put_location.ensures ⊳ c.put-2.ensures ⊳ passes_as c.spelling_of.ensures c.put-3.ensures
-    ⊳ c.put_at_step.ensures)

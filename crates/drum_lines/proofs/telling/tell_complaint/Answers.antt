@@ -1,6 +1,0 @@
-use Rattle.std.proofs.Common.{[]}
-use Rattle.drum_lines.proofs.telling.tell_complaint.Goals as goal
-
-pub returns : goal.returns
-returns g c =
-    c.end_complaint.ensures _ _ (c.put.ensures.stands _ [] (c.new-sheet.ensures _))

@@ -1,6 +1,0 @@
-use Rattle.std.proofs.Common.{append_assoc}
-use Rattle.drum_sheet.proofs.Passing.{◌⊳◌, passes_as}
-use Rattle.drum_listing.proofs.table.line.put_place.Goals as goal
-
-pub returns : goal.returns
-returns g c = passes_as (simp append_assoc) (c.put_location.ensures ⊳ c.put_named.ensures ⊳ c.put.ensures)

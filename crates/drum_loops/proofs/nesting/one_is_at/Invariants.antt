@@ -1,8 +1,0 @@
-use Rattle.std.proofs.Common.{take}
-use Rattle.drum_loops.specs.Closing.{places_in}
-use Rattle.drum_loops.specs.Reached.{HasSuch, IsAt}
-use Rattle.drum_loops.proofs.nesting.one_is_at.Given as goal
-
--- none so far is there
-abbrev pub invariant-loop-node : goal.invariant-loop-node
-invariant-loop-node l = ¬ HasSuch (IsAt (places_in l.flow) l.location.number) (take l.node-index l.nodes)

@@ -1,5 +1,0 @@
-use Rattle.drum_machine.proofs.Opening.{none_yet}
-use Rattle.drum_machine.proofs.open.Open.none.Goals as goal
-
-pub returns : goal.returns
-returns c = λ calls few. none_yet calls 64 few

@@ -1,8 +1,0 @@
--- The counts of marks that the code holds.
-use Rattle.std.specs.Prelude.{ℕ, List, take, length}
-use Rattle.drum_times.specs.declared.notes.mark.Mark.{Mark}
-use Rattle.drum_machine.specs.declared.counts.Counts.{Counts}
-
--- the counts of these marks, in their order
-abbrev pub counts_in : Counts → List Mark → List ℕ
-counts_in held marks = take (length marks) held.passes

@@ -1,7 +1,0 @@
-use Rattle.drum_picture.proofs.Pictured.{pictured_as}
-use Rattle.drum_picture.proofs.pictures.picture_of_run.Goals as goal
-
-pub returns : goal.returns
-returns c =
-    pictured_as c.draw.result c.in_ok-of_run.ensures.kind c.in_ok-of_run.ensures.time c.in_ok-of_run.ensures.shares
-    c.draw.ensures

@@ -1,5 +1,0 @@
-use Rattle.drum_rotation.proofs.Firsts.{first_of_angle}
-use Rattle.drum_rotation.proofs.at_angle.AtAngleClockwork.go.Goals as goal
-
-pub returns-clause-moment : goal.returns-clause-moment
-returns-clause-moment c = rw c.from.ensures (first_of_angle c.args.self.now.angle c.args.clock c.args.self.now.on_drum)

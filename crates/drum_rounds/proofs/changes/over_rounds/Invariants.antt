@@ -1,7 +1,0 @@
-use Rattle.std.proofs.Common.{◌≡◌, map, take}
-use Rattle.drum_rounds.specs.Change.{over_rounds}
-use Rattle.drum_rounds.proofs.changes.over_rounds.Given as goal
-
--- those so far
-abbrev pub invariant-loop-change : goal.invariant-loop-change
-invariant-loop-change l = l.all.items ≡ map (over_rounds l.times) (take l.change-index l.changes)

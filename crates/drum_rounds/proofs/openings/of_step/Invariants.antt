@@ -1,8 +1,0 @@
-use Rattle.std.proofs.Common.{take}
-use Rattle.drum_machine.specs.OpenIn.{between}
-use Rattle.drum_rounds.proofs.OpeningLaws.{AreOfStep}
-use Rattle.drum_rounds.proofs.openings.of_step.Given as goal
-
--- those of the calls so far
-abbrev pub invariant-loop-index : goal.invariant-loop-index
-invariant-loop-index l = AreOfStep l.calls (between l.from l.onto) (take l.index l.calls) l.openings.items

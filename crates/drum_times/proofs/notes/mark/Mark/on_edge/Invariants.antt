@@ -1,8 +1,0 @@
-use Rattle.std.proofs.Common.{◌≡◌, drop}
-use Rattle.drum_times.specs.Marks.{mark_from, mark_on}
-use Rattle.drum_times.proofs.notes.mark.Mark.on_edge.Given as goal
-
--- none so far is on the edge
-abbrev pub invariant-loop-place : goal.invariant-loop-place
-invariant-loop-place l =
-    mark_from l.place (drop l.place l.marks) l.from.number l.onto.number ≡ mark_on l.marks l.from.number l.onto.number

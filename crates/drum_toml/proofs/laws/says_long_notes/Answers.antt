@@ -1,9 +1,0 @@
-use Rattle.drum_toml.proofs.LongFaultless.{long_notes_said}
-use Rattle.drum_toml.proofs.LongSaid.{long_right}
-use Rattle.drum_toml.proofs.laws.says_long_notes.Goals as goal
-
-pub returns-clause-right : goal.returns-clause-right
-returns-clause-right c = long_right
-
-pub returns-clause-said : goal.returns-clause-said
-returns-clause-said c = long_notes_said

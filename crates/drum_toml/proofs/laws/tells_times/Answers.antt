@@ -1,5 +1,0 @@
-use Rattle.drum_toml.proofs.AllFaultsLaws.{none_of_times}
-use Rattle.drum_toml.proofs.laws.tells_times.Goals as goal
-
-pub returns-clause-none : goal.returns-clause-none
-returns-clause-none c = none_of_times

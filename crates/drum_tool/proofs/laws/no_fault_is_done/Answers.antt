@@ -1,5 +1,0 @@
-use Rattle.drum_tool.proofs.Replies.{not_done}
-use Rattle.drum_tool.proofs.laws.no_fault_is_done.Goals as goal
-
-pub returns : goal.returns
-returns c fault = not_done fault

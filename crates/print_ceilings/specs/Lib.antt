@@ -1,0 +1,11 @@
+pub mod CeilingText
+pub mod CountsOf
+pub mod EndsOf
+pub mod KindRows
+pub mod PieceIndexOf
+pub mod ProgressOf
+pub mod RoundsText
+pub mod RoundsWaits
+pub mod RoundsWaitsOf
+pub mod SpelledOut
+pub mod TellerOf

@@ -1,0 +1,5 @@
+use Rattle.print_sheet.proofs.Passing.{◌⊳◌}
+use Rattle.print_graphs.proofs.drawing.put_head.Goals as goal
+
+pub returns : goal.returns
+returns g c = c.put.ensures ⊳ c.put_location.ensures ⊳ c.put-2.ensures

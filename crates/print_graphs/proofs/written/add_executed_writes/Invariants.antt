@@ -1,0 +1,16 @@
+use Rattle.std.proofs.Common.{◌≡◌, ◌-◌}
+use Rattle.std.specs.Prelude.{filter}
+use Rattle.std.specs.List.{range_with_len}
+use Rattle.flow_graph.specs.Executed.{with_new}
+use Rattle.flow_graph.specs.Flow.{executed_in}
+use Rattle.flow_graph.specs.Found.{places_of}
+use Rattle.flow_graph.specs.Taken.{is_among}
+use Rattle.print_graphs.specs.Graph.{executed_writes}
+use Rattle.print_graphs.proofs.written.add_executed_writes.Given as goal
+
+-- what is there, and what the words that are left will add, is what all of them add
+abbrev pub invariant-loop-number : goal.invariant-loop-number
+invariant-loop-number l =
+    with_new (places_of l.written) (filter (is_among (executed_in l.flow))
+    (range_with_len l.number (l.number-end - l.number)))
+    ≡ with_new (places_of l.fn.written) (executed_writes (executed_in l.flow) l.fn.instruction)

@@ -1,0 +1,8 @@
+use Rattle.std.proofs.Common.{append_assoc}
+use Rattle.print_sheet.proofs.Passing.{◌⊳◌, passes_as}
+use Rattle.print_hops.proofs.hop_text.put_hop.Goals as goal
+
+pub returns : goal.returns
+returns g c =
+    passes_as (simp append_assoc)
+    (c.put_location.ensures ⊳ c.put_instruction.ensures ⊳ c.put_way.ensures ⊳ c.put_named.ensures)

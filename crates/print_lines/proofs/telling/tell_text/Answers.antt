@@ -1,0 +1,6 @@
+use Rattle.std.proofs.Common.{[]}
+use Rattle.print_lines.proofs.telling.tell_text.Goals as goal
+
+pub returns : goal.returns
+returns g c =
+    c.end_result.ensures _ _ (c.put.ensures.stands _ [] (c.new-sheet.ensures _))

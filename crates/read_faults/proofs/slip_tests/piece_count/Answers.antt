@@ -1,0 +1,11 @@
+use Rattle.std.proofs.Common.{rules, ◌==◌}
+use borrow.Author.Tests.{tests}
+use Rattle.std.proofs.lemmas.Iterator.Consumers.{count_from_yields_List}
+use Rattle.std.proofs.lemmas.Iterator.Splits.{YieldsList-from_slice_split}
+use Rattle.read_faults.proofs.slip_tests.piece_count.Goals as goal
+
+pub returns : goal.returns
+returns c =
+    count_from_yields_List c.split.result _ c.count.ensures.ran
+    (YieldsList-from_slice_split _ (λ byte. byte == 32) c.args.line.now c.split.ensures.rest c.split.ensures.done
+    c.split.ensures.closure (λ x b q k. search (rules, tests)))

@@ -1,0 +1,37 @@
+-- What the first line says that says anything.
+use Rattle.std.proofs.Common.{◌≡◌, List, [], ◌∷◌, ◌++◌, refl, ap, sym, ◌∙◌, Option, Some, None}
+use Rattle.std.specs.Option.{option_or}
+use Rattle.read_replays.specs.InputsText.{Line, first_said}
+
+-- a line that says nothing of it changes nothing
+said_kept : {A : Type 0} (in_line : Line → Option A) (lines : List Line) (line : Line) → in_line line ≡ None
+    → first_said in_line (lines ++ line ∷ []) ≡ first_said in_line lines
+said_kept in_line [] line none = ap (λ one. option_or one None) none
+said_kept in_line (first ∷ lines) line none = ap (option_or (in_line first)) (said_kept in_line lines line none)
+
+-- a line says it where none has
+said_now : {A : Type 0} (in_line : Line → Option A) (lines : List Line) (line : Line) → first_said in_line lines ≡ None
+    → first_said in_line (lines ++ line ∷ []) ≡ in_line line
+said_now in_line [] line none = or_none (in_line line)
+  where
+    or_none : {A : Type 0} (one : Option A) → option_or one None ≡ one
+    or_none None = refl
+    or_none (Some said) = refl
+said_now in_line (first ∷ lines) line none = go (in_line first) (said_now in_line lines line) none
+  where
+    go : {A : Type 0} {rest all one : Option A} (here : Option A) → (rest ≡ None → all ≡ one)
+        → option_or here rest ≡ None → option_or here all ≡ one
+    go None step none = step none
+    go (Some said) step none = cc
+
+-- a slot that holds what the lines say still does
+pub keeps : {A : Type 0} {slot : Option A} (in_line : Line → Option A) (lines : List Line) (line : Line)
+    → slot ≡ first_said in_line lines → in_line line ≡ None
+    → slot ≡ first_said in_line (lines ++ line ∷ [])
+keeps in_line lines line held none = held ∙ sym (said_kept in_line lines line none)
+
+-- an empty slot is filled with what the line says
+pub fills : {A : Type 0} {slot : Option A} (in_line : Line → Option A) (lines : List Line) (line : Line) (value : A)
+    → slot ≡ first_said in_line lines → slot ≡ None
+    → in_line line ≡ Some value → Some value ≡ first_said in_line (lines ++ line ∷ [])
+fills in_line lines line value held empty says = sym (said_now in_line lines line (sym held ∙ empty) ∙ says)
