@@ -14,7 +14,7 @@
 //! the code's types mean by these: `EdgeOf` what an edge is, `Entries` what a timing table holds,
 //! and `Listed` what a list and notes say.
 //!
-//! Proofs. `Matching` (what is listed for a pattern) serves `machine_monitor` too.
+//! Proofs. `Matching` (what is listed for a pattern) serves `machine_emulator` too.
 #![tactic(auto)]
 
 mod entry;

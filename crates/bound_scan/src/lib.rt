@@ -17,16 +17,16 @@
 //! to the notes takes longer, and that some walk takes as long.
 //!
 //! Definitions, in the order to read them, behind `Worst` of `flow_walks`, the longest time of a
-//! walk, and `Bounded` of `flow_graph`, that of runs: `Table` is what the table is, with its entries
-//! and the one start angle, `Ends` the ends that raise its entries, `Under` how a run arrives under
-//! them, `AnalysisOf` what an analysis hands out, `BoundOf` what the bound is, of runs and of
-//! walks, and `Counted` how many ends a ledger counts where it is found, as `FoundOf` tells them.
-//! The others are how it is found, and a reader of the theorem's clauses needs only `row_in` of
-//! `RowOf`. `Digits`, `Keys`, `Scanned` and `TakenOf` are definitions. `EndOf`, `KeysOf`, `LeapOf`,
-//! `RecentOf` and `RoundOf` say what the code's types mean by them, and `OfCells` which cells an
-//! analysis is made of. `Below` and `InLimited` say which entries the map may have, and `InEntries`
-//! how the table that is raised holds what is kept at a key. `InCells` (what is kept at all keys),
-//! `SearchOf` and `ScanOf` say what is asked where an end is made.
+//! walk, and `Bounded` of `flow_graph`, that of runs: `Table` is what the table is, with its
+//! entries and the one start angle, `Ends` the ends that raise its entries, `Under` how a run
+//! arrives under them, `AnalysisOf` what an analysis hands out, `BoundOf` what the bound is, of
+//! runs and of walks, and `Counted` how many ends a ledger counts where it is found, as `FoundOf`
+//! tells them. The others are how it is found, and a reader of the theorem's clauses needs only
+//! `row_in` of `RowOf`. `Digits`, `Keys`, `Scanned` and `TakenOf` are definitions. `EndOf`,
+//! `KeysOf`, `LeapOf`, `RecentOf` and `RoundOf` say what the code's types mean by them, and
+//! `OfCells` which cells an analysis is made of. `Below` and `InLimited` say which entries the map
+//! may have, and `InEntries` how the table that is raised holds what is kept at a key. `InCells`
+//! (what is kept at all keys), `SearchOf` and `ScanOf` say what is asked where an end is made.
 //!
 //! Proofs. Laws of numbers of counts (`DigitsLaws`), of leaps that serve more hops (`Recents`), of
 //! keys (`KeyLaws`, `Onward`) and of rounds (`RoundLaws`). Laws of what is held, by entry
@@ -59,8 +59,5 @@ pub use analysing::{analyse, analyse_counting};
 pub use analysis::Analysis;
 pub use bounding::{bound, bound_counting};
 pub use counted_analysis::CountedAnalysis;
-pub use flow_acceptance::accept;
-pub use flow_graph::{Cycle, Flow, Hop, Hops, Refusal, flow};
-pub use machine_steps::Way;
 pub use scan::found::Found;
 pub use worst::Worst;

@@ -5,7 +5,9 @@
 
 mod memory_files;
 
-use program_run::{Reading, analyse, read_deck, read_notes, read_times};
+use drum_bound::analyse;
+use drum_core::{Reading, read_deck};
+use drum_times::{read_notes, read_times};
 use std::fs::{self, File};
 
 fn main(rt: HostRuntime) -> anyhow::Result<()> {

@@ -8,9 +8,9 @@ ghost use Rattle.print_lines.specs.BoundText.{bound_text};
 ghost use Rattle.program_run.specs.BoundOfFiles.{AreNames, IsBoundOfFiles};
 ghost use Rattle.caller.specs.MemoryFiles.{asked_of, text_of};
 
-use base_devices::{Input, Output, Reading};
+use drum_core::{Input, Output, Reading};
+use drum_tool::{Source, Status, run};
 use program_run::laws::{bound_is_of_the_files, no_fault_is_done};
-use program_run::{Source, Status, run};
 use std::alloc::Global;
 
 /// A file in memory.

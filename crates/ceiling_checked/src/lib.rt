@@ -3,9 +3,9 @@
 //! that the worst time is no more than the one, and no less than the other takes. It stands on the
 //! flow graph and its rows, and not on the analysis.
 //!
-//! Code, from the bottom up. The rows of `ceiling_rows` say what the hops from each site take at most,
-//! and where they lead; `longest` is the longest step of all. `ceiling_prices` finds prices of
-//! the marks, their regions and levels of the sites, and owes only that it ends. `certificate`
+//! Code, from the bottom up. The rows of `ceiling_rows` say what the hops from each site take at
+//! most, and where they lead; `longest` is the longest step of all. `ceiling_prices` finds prices
+//! of the marks, their regions and levels of the sites, and owes only that it ends. `certificate`
 //! looks whether they pay for every hop, where `step` tells what the marks charge for it, by each
 //! `region`. `size` has what neither total nor price is above, by the passes `in_rounds` of the
 //! marks, and `prices` such prices as are surely high enough. `finding` takes the lower ones, and

@@ -11,7 +11,7 @@ use flow_acceptance::counts::product_of;
 use flow_acceptance::fixed::Fixed;
 use flow_graph::Flow;
 use flow_graph::place::{is_listed, is_there};
-use print_sheet::Sheet;
+use print_lines::Sheet;
 use read_decks::Deck;
 use std::alloc::{AllocError, Global};
 
@@ -36,7 +36,7 @@ impl Findings {
     ghost use Rattle.flow_graph.specs.Accepted as said;
     ghost use Rattle.flow_graph.specs.Executed.{AreAllNodes};
     ghost use Rattle.flow_graph.specs.Flow.{executed_in, nodes_of, of_flow};
-    ghost use Rattle.print_sheet.specs.Stands.{Passes};
+    ghost use Rattle.print_lines.specs.Stands.{Passes};
     ghost use Rattle.check_findings.specs.FoundAt.{not_there, unfit, altering, too_many};
     ghost use Rattle.check_findings.specs.Finding.{may_be_meant};
     ghost use Rattle.check_findings.specs.FoundAt.{astray, missing, unused};
@@ -321,7 +321,7 @@ impl Findings {
     /// inside which it stands, behind a line that says so where these make long notes; and a list
     /// for each word that is altered. What is lacking has to be that of what was found. It takes no
     /// memory.
-    #[tactic(auto, using(print_sheet::proofs::Passing::passing))]
+    #[tactic(auto, using(print_lines::proofs::Passing::passing))]
     pub fn put<O: Output>(&self, sheet: &mut Sheet, writer: &mut O, lacking: &Lacking)
         requires { words_in lacking.now ≡ words_altered (found_in self.now) }
         ensures { Passes (O.device writer.old) sheet.old (O.device writer.new) sheet.new

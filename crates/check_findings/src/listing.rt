@@ -2,7 +2,7 @@
 
 ghost use Rattle.std.specs.Prelude.{◌++◌, codes, decimal, map};
 ghost use Rattle.base_words.specs.Numeral.{digits_of};
-ghost use Rattle.print_sheet.specs.Stands.{Passes};
+ghost use Rattle.print_lines.specs.Stands.{Passes};
 ghost use Rattle.check_findings.specs.Finding.{idle};
 ghost use Rattle.check_findings.specs.FindingOf.{seen};
 ghost use Rattle.check_findings.specs.FindingsText.{finding_text, findings_text};
@@ -11,11 +11,10 @@ use crate::finding::Finding;
 use base_devices::Output;
 use base_notes::Edge;
 use base_words::Location;
-use print_lines::{put_located, put_location, two_digits};
-use print_sheet::Sheet;
+use print_lines::{Sheet, put_located, put_location, two_digits};
 
 /// Puts a line of a name, a location and an operation.
-#[tactic(auto, using(print_sheet::proofs::Passing::passing))]
+#[tactic(auto, using(print_lines::proofs::Passing::passing))]
 fn put_operation<O: Output>(
     sheet: &mut Sheet,
     writer: &mut O,
@@ -34,7 +33,7 @@ fn put_operation<O: Output>(
 }
 
 /// Puts a line of a name and two locations.
-#[tactic(auto, using(print_sheet::proofs::Passing::passing))]
+#[tactic(auto, using(print_lines::proofs::Passing::passing))]
 fn put_locations<O: Output>(
     sheet: &mut Sheet,
     writer: &mut O,
@@ -54,7 +53,7 @@ fn put_locations<O: Output>(
 }
 
 /// Puts a line of a name and two edges.
-#[tactic(auto, using(print_sheet::proofs::Passing::passing))]
+#[tactic(auto, using(print_lines::proofs::Passing::passing))]
 fn put_edges<O: Output>(sheet: &mut Sheet, writer: &mut O, name: &[u8], first: Edge, second: Edge)
     ensures { Passes (O.device writer.old) sheet.old (O.device writer.new) sheet.new
         (name.now ++ digits_of 4 first.from.number ++ codes " " ++ digits_of 4 first.onto.number
@@ -73,7 +72,7 @@ fn put_edges<O: Output>(sheet: &mut Sheet, writer: &mut O, name: &[u8], first: E
 }
 
 /// Puts the line of a product that is too large.
-#[tactic(auto, using(print_sheet::proofs::Passing::passing))]
+#[tactic(auto, using(print_lines::proofs::Passing::passing))]
 fn put_product<O: Output>(sheet: &mut Sheet, writer: &mut O, product: u128)
     ensures { Passes (O.device writer.old) sheet.old (O.device writer.new) sheet.new
         (codes "toolarge " ++ decimal product ++ codes "\n") }
@@ -84,7 +83,7 @@ fn put_product<O: Output>(sheet: &mut Sheet, writer: &mut O, product: u128)
 }
 
 /// Puts the line of idle words, from one to another one.
-#[tactic(auto, using(print_sheet::proofs::Passing::passing))]
+#[tactic(auto, using(print_lines::proofs::Passing::passing))]
 fn put_idle<O: Output>(sheet: &mut Sheet, writer: &mut O, first: Location, last: Location)
     ensures { Passes (O.device writer.old) sheet.old (O.device writer.new) sheet.new
         (finding_text (idle first.number last.number)) }
@@ -99,7 +98,7 @@ fn put_idle<O: Output>(sheet: &mut Sheet, writer: &mut O, first: Location, last:
 }
 
 /// Puts the line of a finding.
-#[tactic(auto, using(print_sheet::proofs::Passing::passing))]
+#[tactic(auto, using(print_lines::proofs::Passing::passing))]
 fn put_finding<O: Output>(sheet: &mut Sheet, writer: &mut O, finding: &Finding)
     ensures { Passes (O.device writer.old) sheet.old (O.device writer.new) sheet.new
         (finding_text (seen finding.now)) }
@@ -133,7 +132,7 @@ fn put_finding<O: Output>(sheet: &mut Sheet, writer: &mut O, finding: &Finding)
 }
 
 /// Puts the lines of what was found.
-#[tactic(auto, using(print_sheet::proofs::Passing::passing))]
+#[tactic(auto, using(print_lines::proofs::Passing::passing))]
 pub fn put_findings<O: Output>(sheet: &mut Sheet, writer: &mut O, findings: &[Finding])
     ensures { Passes (O.device writer.old) sheet.old (O.device writer.new) sheet.new
         (findings_text (map seen findings.now)) }

@@ -4,7 +4,7 @@
 ghost use Rattle.std.specs.Prelude.{◌≡◌, flat_map, is_some, map};
 ghost use Rattle.std.specs.List.{list_any};
 ghost use Rattle.base_notes.specs.EdgeOf.{edge_of};
-ghost use Rattle.print_sheet.specs.Stands.{Passes};
+ghost use Rattle.print_lines.specs.Stands.{Passes};
 ghost use Rattle.check_findings.specs.FindingOf.{seen};
 ghost use Rattle.check_findings.specs.Shared.{asks_to_share, shared_onto};
 ghost use Rattle.check_findings.specs.Lacking.{alone_text, edges_text, further_text, long_text};
@@ -17,10 +17,10 @@ use crate::within::Within;
 use base_devices::Output;
 use base_notes::Edge;
 use base_words::Location;
-use print_sheet::Sheet;
+use print_lines::Sheet;
 
 /// Puts the edge of a mark on one edge.
-#[tactic(auto, using(print_sheet::proofs::Passing::passing))]
+#[tactic(auto, using(print_lines::proofs::Passing::passing))]
 fn put_alone<O: Output>(sheet: &mut Sheet, writer: &mut O, edge: Edge)
     ensures { Passes (O.device writer.old) sheet.old (O.device writer.new) sheet.new
         (alone_text (edge_of edge)) }
@@ -33,7 +33,7 @@ fn put_alone<O: Output>(sheet: &mut Sheet, writer: &mut O, edge: Edge)
 }
 
 /// Puts an edge of a mark on several.
-#[tactic(auto, using(print_sheet::proofs::Passing::passing))]
+#[tactic(auto, using(print_lines::proofs::Passing::passing))]
 fn put_pair<O: Output>(sheet: &mut Sheet, writer: &mut O, edge: Edge)
     ensures { Passes (O.device writer.old) sheet.old (O.device writer.new) sheet.new
         (pair_text (edge_of edge)) }
@@ -47,7 +47,7 @@ fn put_pair<O: Output>(sheet: &mut Sheet, writer: &mut O, edge: Edge)
 
 /// Puts the edge of a finding behind others of a mark that it shares, if it shares that of edges
 /// which go back to this location.
-#[tactic(auto, using(print_sheet::proofs::Passing::passing))]
+#[tactic(auto, using(print_lines::proofs::Passing::passing))]
 fn put_further<O: Output>(sheet: &mut Sheet, writer: &mut O, finding: &Finding, head: Location)
     ensures { Passes (O.device writer.old) sheet.old (O.device writer.new) sheet.new
         (further_text head.number (seen finding.now)) }
@@ -59,7 +59,7 @@ fn put_further<O: Output>(sheet: &mut Sheet, writer: &mut O, finding: &Finding, 
 }
 
 /// Puts the further edges of a mark on several that go back to this location.
-#[tactic(auto, using(print_sheet::proofs::Passing::passing))]
+#[tactic(auto, using(print_lines::proofs::Passing::passing))]
 fn put_all_further<O: Output>(
     sheet: &mut Sheet,
     writer: &mut O,
@@ -75,7 +75,7 @@ fn put_all_further<O: Output>(
 }
 
 /// Puts the edges of a mark on several, of which this is the first.
-#[tactic(auto, using(print_sheet::proofs::Passing::passing))]
+#[tactic(auto, using(print_lines::proofs::Passing::passing))]
 fn put_several<O: Output>(sheet: &mut Sheet, writer: &mut O, findings: &[Finding], edge: Edge)
     ensures { Passes (O.device writer.old) sheet.old (O.device writer.new) sheet.new
         (several_text (map seen findings.now) (edge_of edge)) }
@@ -105,7 +105,7 @@ fn is_shared_at(findings: &[Finding], shared: bool, head: Location) -> bool
 }
 
 /// Puts the edges of a mark, of which this is the first.
-#[tactic(auto, using(print_sheet::proofs::Passing::passing))]
+#[tactic(auto, using(print_lines::proofs::Passing::passing))]
 fn put_edges<O: Output>(
     sheet: &mut Sheet,
     writer: &mut O,
@@ -124,7 +124,7 @@ fn put_edges<O: Output>(
 }
 
 /// Puts the line that says inside which other mark a mark stands, if it does, or why there is none.
-#[tactic(auto, using(print_sheet::proofs::Passing::passing))]
+#[tactic(auto, using(print_lines::proofs::Passing::passing))]
 fn put_within<O: Output>(sheet: &mut Sheet, writer: &mut O, within: Within)
     ensures { Passes (O.device writer.old) sheet.old (O.device writer.new) sheet.new
         (within_text within) }
@@ -146,7 +146,7 @@ fn put_within<O: Output>(sheet: &mut Sheet, writer: &mut O, within: Within)
 }
 
 /// Puts the mark of which this edge is the first, with the mark that it is to stand inside of.
-#[tactic(auto, using(print_sheet::proofs::Passing::passing))]
+#[tactic(auto, using(print_lines::proofs::Passing::passing))]
 fn put_mark<O: Output>(
     sheet: &mut Sheet,
     writer: &mut O,
@@ -165,7 +165,7 @@ fn put_mark<O: Output>(
 }
 
 /// Puts the mark that a finding asks for, if it asks for one of its own.
-#[tactic(auto, using(print_sheet::proofs::Passing::passing))]
+#[tactic(auto, using(print_lines::proofs::Passing::passing))]
 fn put_mark_for<O: Output>(
     sheet: &mut Sheet,
     writer: &mut O,
@@ -186,7 +186,7 @@ fn put_mark_for<O: Output>(
 }
 
 /// Puts the marks that are lacking.
-#[tactic(auto, using(print_sheet::proofs::Passing::passing))]
+#[tactic(auto, using(print_lines::proofs::Passing::passing))]
 pub fn put_marks<O: Output>(sheet: &mut Sheet, writer: &mut O, findings: &[Finding])
     ensures { Passes (O.device writer.old) sheet.old (O.device writer.new) sheet.new
         (marks_text (map seen findings.now)) }
@@ -198,7 +198,7 @@ pub fn put_marks<O: Output>(sheet: &mut Sheet, writer: &mut O, findings: &[Findi
 }
 
 /// Puts the line that says that the notes with the marks behind it are long, if they are.
-#[tactic(auto, using(print_sheet::proofs::Passing::passing))]
+#[tactic(auto, using(print_lines::proofs::Passing::passing))]
 pub fn put_long<O: Output>(sheet: &mut Sheet, writer: &mut O, long: bool)
     ensures { Passes (O.device writer.old) sheet.old (O.device writer.new) sheet.new
         (long_text long) }

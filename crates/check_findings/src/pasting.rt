@@ -1,7 +1,7 @@
 //! What was found, written out: a line each, and then the notes that are lacking, to be pasted.
 
 ghost use Rattle.std.specs.Prelude.{◌≡◌, flat_map, map};
-ghost use Rattle.print_sheet.specs.Stands.{Passes};
+ghost use Rattle.print_lines.specs.Stands.{Passes};
 ghost use Rattle.check_findings.specs.FindingOf.{seen};
 ghost use Rattle.check_findings.specs.Lacking.{check_text, comment_text, gap, list_text, part_text};
 ghost use Rattle.check_findings.specs.Lacking.{pattern_text, words_altered};
@@ -14,11 +14,10 @@ use crate::marking::{put_long, put_marks};
 use crate::unchanged_parts::UnchangedParts;
 use base_devices::Output;
 use base_words::Word;
-use print_lines::spelling_of;
-use print_sheet::Sheet;
+use print_lines::{Sheet, spelling_of};
 
 /// Puts the digits of an operation that stays.
-#[tactic(auto, using(print_sheet::proofs::Passing::passing))]
+#[tactic(auto, using(print_lines::proofs::Passing::passing))]
 fn put_op<O: Output>(sheet: &mut Sheet, writer: &mut O, op: Option<u8>)
     ensures { Passes (O.device writer.old) sheet.old (O.device writer.new) sheet.new
         (part_text op) }
@@ -29,7 +28,7 @@ fn put_op<O: Output>(sheet: &mut Sheet, writer: &mut O, op: Option<u8>)
 }
 
 /// Puts the digits of a part that stays; none where it has to be thought about.
-#[tactic(auto, using(print_sheet::proofs::Passing::passing))]
+#[tactic(auto, using(print_lines::proofs::Passing::passing))]
 fn put_part<O: Output>(sheet: &mut Sheet, writer: &mut O, part: Option<u16>)
     ensures { Passes (O.device writer.old) sheet.old (O.device writer.new) sheet.new
         (part_text part) }
@@ -40,7 +39,7 @@ fn put_part<O: Output>(sheet: &mut Sheet, writer: &mut O, part: Option<u16>)
 }
 
 /// Puts what is behind the last part.
-#[tactic(auto, using(print_sheet::proofs::Passing::passing))]
+#[tactic(auto, using(print_lines::proofs::Passing::passing))]
 fn put_gap<O: Output>(sheet: &mut Sheet, writer: &mut O, part: Option<u16>)
     ensures { Passes (O.device writer.old) sheet.old (O.device writer.new) sheet.new (gap part) }
 {
@@ -50,7 +49,7 @@ fn put_gap<O: Output>(sheet: &mut Sheet, writer: &mut O, part: Option<u16>)
 }
 
 /// Puts the pattern of a list, with the parts that stay.
-#[tactic(auto, using(print_sheet::proofs::Passing::passing))]
+#[tactic(auto, using(print_lines::proofs::Passing::passing))]
 fn put_pattern<O: Output>(sheet: &mut Sheet, writer: &mut O, kept: &UnchangedParts)
     ensures { Passes (O.device writer.old) sheet.old (O.device writer.new) sheet.new
         (pattern_text kept.now) }
@@ -68,7 +67,7 @@ fn put_pattern<O: Output>(sheet: &mut Sheet, writer: &mut O, kept: &UnchangedPar
 }
 
 /// Puts the end of the line of a pattern: the word as it is loaded, as a comment, if it is.
-#[tactic(auto, using(print_sheet::proofs::Passing::passing))]
+#[tactic(auto, using(print_lines::proofs::Passing::passing))]
 fn put_comment<O: Output>(sheet: &mut Sheet, writer: &mut O, loaded: Option<Word>)
     ensures { Passes (O.device writer.old) sheet.old (O.device writer.new) sheet.new
         (comment_text loaded) }
@@ -82,7 +81,7 @@ fn put_comment<O: Output>(sheet: &mut Sheet, writer: &mut O, loaded: Option<Word
 }
 
 /// Puts the list of a word, for the rest of its pattern to be filled in.
-#[tactic(auto, using(print_sheet::proofs::Passing::passing))]
+#[tactic(auto, using(print_lines::proofs::Passing::passing))]
 fn put_list<O: Output>(sheet: &mut Sheet, writer: &mut O, lack: &Lack)
     ensures { Passes (O.device writer.old) sheet.old (O.device writer.new) sheet.new
         (list_text (pair_of lack.now)) }
@@ -95,7 +94,7 @@ fn put_list<O: Output>(sheet: &mut Sheet, writer: &mut O, lack: &Lack)
 }
 
 /// Puts the lists that are lacking.
-#[tactic(auto, using(print_sheet::proofs::Passing::passing))]
+#[tactic(auto, using(print_lines::proofs::Passing::passing))]
 fn put_lists<O: Output>(sheet: &mut Sheet, writer: &mut O, words: &[Lack])
     ensures { Passes (O.device writer.old) sheet.old (O.device writer.new) sheet.new
         (flat_map list_text (map pair_of words.now)) }
@@ -110,7 +109,7 @@ fn put_lists<O: Output>(sheet: &mut Sheet, writer: &mut O, words: &[Lack])
 /// it stands, behind a line that says so where these make long notes; and a list for each word that
 /// is altered. What is lacking has to be that of what was found; `long` says whether the notes are
 /// long with the marks. It takes no memory.
-#[tactic(auto, using(print_sheet::proofs::Passing::passing))]
+#[tactic(auto, using(print_lines::proofs::Passing::passing))]
 pub fn put_all<O: Output>(
     sheet: &mut Sheet,
     writer: &mut O,

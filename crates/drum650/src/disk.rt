@@ -3,7 +3,7 @@
 ghost use Rattle.std.specs.Prelude.{None};
 
 use base_devices::{Input, Reading};
-use program_run::Source;
+use read_documents::Source;
 use std::fs::File;
 
 /// The file system. No contract can tell what a file holds.

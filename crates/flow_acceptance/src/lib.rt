@@ -8,8 +8,9 @@
 //! be any, through these without the size. `acceptance` has `accept`, which hands out the flow
 //! alone.
 //!
-//! Definitions: `Acceptance` (which refusal is given; `flow_graph` has when a deck is accepted). The
-//! others say what the code means by these: `Altering`, `Fixed`, `Size`, `Free` and `OrderedFlow`.
+//! Definitions: `Acceptance` (which refusal is given; `flow_graph` has when a deck is accepted).
+//! The others say what the code means by these: `Altering`, `Fixed`, `Size`, `Free` and
+//! `OrderedFlow`.
 //!
 //! Proofs. These have laws that other crates use: `Acceptances`, why a deck is accepted; `Plain`,
 //! of nodes where notes have no calls; `Products`, of products as they are counted; `FreeRows`, of

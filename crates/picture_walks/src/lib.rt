@@ -5,11 +5,11 @@
 //! docs/PICTURE.md says how it is read.
 //!
 //! Code. `pictures` has `picture`, `picture_in_rounds` and `picture_of_run`. Each finds what is
-//! shown, the scene of `picture_scene`, and has `picture_drawing` draw it. `of_analysis` finds it of an
-//! analysis, `of_rounds` of a walk in rounds, and `of_run` of a `run`, which takes in one step
-//! after the other. `hops` finds the revolutions that are shown in a list of hops. Of a walk in
-//! rounds `pieces` tells what each piece takes and how often it comes, `start` from which of them
-//! on it is drawn, and `going` goes through them, hop by hop.
+//! shown, the scene of `picture_scene`, and has `picture_drawing` draw it. `of_analysis` finds it
+//! of an analysis, `of_rounds` of a walk in rounds, and `of_run` of a `run`, which takes in one
+//! step after the other. `hops` finds the revolutions that are shown in a list of hops. Of a walk
+//! in rounds `pieces` tells what each piece takes and how often it comes, `start` from which of
+//! them on it is drawn, and `going` goes through them, hop by hop.
 //!
 //! Proofs. `Pictured` says what a picture says by what its walk was found in.
 #![tactic(auto)]

@@ -3,9 +3,9 @@ use Rattle.std.proofs.Common.{◌≡◌, ℕ, suc, List, [], ◌∷◌, length, 
 use Rattle.std.proofs.lemmas.Grind.{flat_map-append}
 use Rattle.std.proofs.lemmas.List.{append-nil}
 use Rattle.base_devices.specs.Device.{Device}
-use Rattle.print_sheet.specs.declared.sheet.Sheet.{Sheet}
-use Rattle.print_sheet.specs.Stands.{Passes}
-use Rattle.print_sheet.proofs.Passing.{◌⊳◌, passes_as, passes_none}
+use Rattle.print_lines.specs.declared.sheet.Sheet.{Sheet}
+use Rattle.print_lines.specs.Stands.{Passes}
+use Rattle.print_lines.proofs.Passing.{◌⊳◌, passes_as, passes_none}
 use Rattle.print_ceilings.specs.declared.progress.Progress.{Progress}
 use Rattle.print_ceilings.specs.RoundsText.{at_time, both, end_line, end_rounds_line, one_more}
 use Rattle.print_ceilings.specs.RoundsText.{part_line, rounds_line, Telling, PartsSoFar}

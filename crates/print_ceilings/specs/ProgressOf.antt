@@ -1,8 +1,8 @@
 -- How far a walk is told, as the code has it.
 use Rattle.std.specs.Prelude.{◌≡◌, ℕ, ◌^◌, ◌<◌, List, length, get_or, None}
 use Rattle.base_devices.specs.Device.{Device}
-use Rattle.print_sheet.specs.declared.sheet.Sheet.{Sheet}
-use Rattle.print_sheet.specs.Stands.{Passes}
+use Rattle.print_lines.specs.declared.sheet.Sheet.{Sheet}
+use Rattle.print_lines.specs.Stands.{Passes}
 use Rattle.print_ceilings.specs.declared.progress.Progress.{Progress}
 use Rattle.print_ceilings.specs.RoundsText.{joined, PartsSoFar}
 

@@ -3,14 +3,14 @@
 ghost use Rattle.std.specs.Prelude.{◌+◌, ◌^◌, ◌≤◌};
 ghost use Rattle.base_notes.specs.Entries.{entry_in};
 ghost use Rattle.flow_walks.specs.Pieces.{seen_placed};
-ghost use Rattle.print_sheet.specs.Stands.{Passes};
+ghost use Rattle.print_lines.specs.Stands.{Passes};
 ghost use Rattle.print_ceilings.specs.RoundsText.{placed_line};
 
 use base_devices::Output;
 use base_notes::Times;
 use flow_walks::Placed;
 use print_hops::{Moments, TimedHop, put_hop, put_times_later};
-use print_sheet::Sheet;
+use print_lines::Sheet;
 
 /// Puts the line of a hop of a piece, with the word times used when it begins and when it ends.
 pub fn put_placed<O: Output>(

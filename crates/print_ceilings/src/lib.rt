@@ -14,8 +14,8 @@
 //! Definitions, in the order to read them: `CeilingText` is the text of a ceiling, mark by mark,
 //! and `RoundsText` that of its walk. `SpelledOut` is that walk hop by hop, and `RoundsWaits` the
 //! text of where its word times go. The others say what the code means by these: `ProgressOf` (how
-//! far a walk is told), `EndsOf`, `CountsOf`, `PieceIndexOf`, `TellerOf`, `RoundsWaitsOf` (the waits,
-//! as they are reckoned) with `KindRows` (their rows, before they are sorted).
+//! far a walk is told), `EndsOf`, `CountsOf`, `PieceIndexOf`, `TellerOf`, `RoundsWaitsOf` (the
+//! waits, as they are reckoned) with `KindRows` (their rows, before they are sorted).
 //!
 //! Proofs. `Lists` has what stands where in a list, and `EndLaws` where hops begin. `Passing` has
 //! lines that are told one after the other; `Tellings` how pieces are told, and how long they take;

@@ -1,12 +1,11 @@
 //! The other lines of a walk in rounds. Times are in word times.
 
-ghost use Rattle.print_sheet.specs.Stands.{Passes};
+ghost use Rattle.print_lines.specs.Stands.{Passes};
 ghost use Rattle.print_ceilings.specs.RoundsText.{again_line, end_line, end_rounds_line};
 ghost use Rattle.print_ceilings.specs.RoundsText.{part_line, rounds_line};
 
 use base_devices::Output;
-use print_lines::{four_digits, put_named};
-use print_sheet::Sheet;
+use print_lines::{Sheet, four_digits, put_named};
 
 /// Puts where a part begins, by its number.
 pub fn put_part<O: Output>(sheet: &mut Sheet, writer: &mut O, part: usize)

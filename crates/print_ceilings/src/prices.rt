@@ -5,15 +5,14 @@ ghost use Rattle.std.specs.Prelude.{◌≡◌, ◌≤◌, length, flat_map};
 ghost use Rattle.std.specs.List.{enumerate_from};
 ghost use Rattle.ceiling_rounds.specs.InRounds.{passes_in};
 ghost use Rattle.ceiling_checked.specs.CeilingOf.{prices_of};
-ghost use Rattle.print_sheet.specs.Stands.{Passes};
+ghost use Rattle.print_lines.specs.Stands.{Passes};
 ghost use Rattle.print_ceilings.specs.CeilingText.{bracket_lines, ceiling_text, price_line};
 ghost use Rattle.print_ceilings.specs.CeilingText.{price_line_at};
 
 use base_devices::Output;
 use base_notes::{Mark, Notes};
 use ceiling_checked::Bracket;
-use print_lines::{put_location, put_name, put_named};
-use print_sheet::Sheet;
+use print_lines::{Sheet, put_location, put_name, put_named};
 
 /// Puts the line of a mark with this price and so many passes.
 fn put_price<O: Output>(sheet: &mut Sheet, writer: &mut O, mark: &Mark, price: u128, passes: u128)

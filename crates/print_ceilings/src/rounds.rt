@@ -3,7 +3,7 @@
 ghost use Rattle.std.specs.Prelude.{◌^◌, ◌<◌};
 ghost use Rattle.base_notes.specs.Entries.{entry_in};
 ghost use Rattle.ceiling_rounds.specs.InRounds.{pieces_of, total_of};
-ghost use Rattle.print_sheet.specs.Stands.{Passes};
+ghost use Rattle.print_lines.specs.Stands.{Passes};
 ghost use Rattle.print_ceilings.specs.PieceIndexOf.{IsPieceIndexOf, IsWalkWith};
 ghost use Rattle.print_ceilings.specs.RoundsText.{joined, rounds_text, tell};
 
@@ -15,7 +15,7 @@ use base_devices::Output;
 use base_notes::Times;
 use ceiling_checked::Bracket;
 use ceiling_rounds::InRounds;
-use print_sheet::Sheet;
+use print_lines::Sheet;
 
 /// Puts the lines of a walk.
 fn put_walk<O: Output>(

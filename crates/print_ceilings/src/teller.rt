@@ -15,7 +15,7 @@ use base_devices::Output;
 use base_notes::Times;
 use ceiling_rounds::InRounds;
 use flow_walks::{Piece, Placed};
-use print_sheet::Sheet;
+use print_lines::Sheet;
 
 /// A walk with its timing table, and what has to be known of its pieces to tell it.
 #[derive(Clone, Copy)]

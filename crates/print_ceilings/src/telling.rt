@@ -12,7 +12,7 @@ use crate::progress::Progress;
 use crate::teller::Teller;
 use base_devices::Output;
 use flow_walks::{Piece, Rounds};
-use print_sheet::Sheet;
+use print_lines::Sheet;
 
 impl Teller<'_> {
     /// Tells pieces in a row, of which those below the limit are there.

@@ -3,7 +3,7 @@
 
 ghost use Rattle.std.specs.Prelude.{◌≡◌, ◌<◌, ◌^◌, flat_map};
 ghost use Rattle.flow_graph.specs.Found.{places_of};
-ghost use Rattle.print_sheet.specs.Stands.{Passes};
+ghost use Rattle.print_lines.specs.Stands.{Passes};
 ghost use Rattle.base_notes.specs.Marks.{mark_on};
 ghost use Rattle.print_graphs.specs.GraphOf.{edges_in, node_of};
 ghost use Rattle.print_graphs.specs.GraphText.{arrow_text, colour_text, count_text, edge_text};
@@ -16,11 +16,10 @@ use base_devices::Output;
 use base_notes::Mark;
 use base_words::Location;
 use flow_graph::location_set::LocationSet;
-use print_lines::{put_location, put_name};
-use print_sheet::Sheet;
+use print_lines::{Sheet, put_location, put_name};
 
 /// Puts an arrow from one location to another.
-#[tactic(auto, using(print_sheet::proofs::Passing::passing))]
+#[tactic(auto, using(print_lines::proofs::Passing::passing))]
 fn put_arrow<O: Output>(sheet: &mut Sheet, writer: &mut O, from: Location, onto: Location)
     ensures { Passes (O.device writer.old) sheet.old (O.device writer.new) sheet.new
         (arrow_text from.number onto.number) }
@@ -31,7 +30,7 @@ fn put_arrow<O: Output>(sheet: &mut Sheet, writer: &mut O, from: Location, onto:
 }
 
 /// Puts which mark it is, and how often it is passed at most.
-#[tactic(auto, using(print_sheet::proofs::Passing::passing))]
+#[tactic(auto, using(print_lines::proofs::Passing::passing))]
 fn put_count<O: Output>(sheet: &mut Sheet, writer: &mut O, place: usize, most: u16)
     requires { place < 2 ^ 63 }
     ensures { Passes (O.device writer.old) sheet.old (O.device writer.new) sheet.new
@@ -44,7 +43,7 @@ fn put_count<O: Output>(sheet: &mut Sheet, writer: &mut O, place: usize, most: u
 }
 
 /// Puts which mark a mark stands inside of, if it does.
-#[tactic(auto, using(print_sheet::proofs::Passing::passing))]
+#[tactic(auto, using(print_lines::proofs::Passing::passing))]
 fn put_inside<O: Output>(sheet: &mut Sheet, writer: &mut O, marks: &[Mark], inside: Option<usize>)
     ensures { Passes (O.device writer.old) sheet.old (O.device writer.new) sheet.new
         (inside_text marks.now inside) }
@@ -59,7 +58,7 @@ fn put_inside<O: Output>(sheet: &mut Sheet, writer: &mut O, marks: &[Mark], insi
 }
 
 /// Puts the name of a mark, if it has one, and the end of its label.
-#[tactic(auto, using(print_sheet::proofs::Passing::passing))]
+#[tactic(auto, using(print_lines::proofs::Passing::passing))]
 fn put_label_end<O: Output>(sheet: &mut Sheet, writer: &mut O, mark: &Mark)
     ensures { Passes (O.device writer.old) sheet.old (O.device writer.new) sheet.new
         (named_text mark.now.name) }
@@ -70,7 +69,7 @@ fn put_label_end<O: Output>(sheet: &mut Sheet, writer: &mut O, mark: &Mark)
 
 /// Puts the label of a mark: its number, from 1, its most, which mark it stands inside of, and its
 /// name.
-#[tactic(auto, using(print_sheet::proofs::Passing::passing))]
+#[tactic(auto, using(print_lines::proofs::Passing::passing))]
 fn put_mark<O: Output>(sheet: &mut Sheet, writer: &mut O, marks: &[Mark], place: usize, mark: &Mark)
     requires { place < 2 ^ 63 }
     ensures { Passes (O.device writer.old) sheet.old (O.device writer.new) sheet.new
@@ -82,7 +81,7 @@ fn put_mark<O: Output>(sheet: &mut Sheet, writer: &mut O, marks: &[Mark], place:
 }
 
 /// Puts the label of the mark that stands on an edge, if one does.
-#[tactic(auto, using(print_sheet::proofs::Passing::passing))]
+#[tactic(auto, using(print_lines::proofs::Passing::passing))]
 fn put_mark_on<O: Output>(
     sheet: &mut Sheet,
     writer: &mut O,
@@ -108,7 +107,7 @@ fn colour(closes: bool) -> &'static [u8]
 }
 
 /// Puts the end of an edge's line, which is red if it closes a loop.
-#[tactic(auto, using(print_sheet::proofs::Passing::passing))]
+#[tactic(auto, using(print_lines::proofs::Passing::passing))]
 fn put_end<O: Output>(sheet: &mut Sheet, writer: &mut O, closes: bool)
     ensures { Passes (O.device writer.old) sheet.old (O.device writer.new) sheet.new
         (end_text closes) }
@@ -118,7 +117,7 @@ fn put_end<O: Output>(sheet: &mut Sheet, writer: &mut O, closes: bool)
 }
 
 /// Puts the line of an edge of a box, with the mark that stands on it; red if it closes a loop.
-#[tactic(auto, using(print_sheet::proofs::Passing::passing))]
+#[tactic(auto, using(print_lines::proofs::Passing::passing))]
 fn put_edge<O: Output>(
     sheet: &mut Sheet,
     writer: &mut O,
@@ -138,7 +137,7 @@ fn put_edge<O: Output>(
 }
 
 /// Puts the lines of the edges of a box.
-#[tactic(auto, using(print_sheet::proofs::Lines::lines))]
+#[tactic(auto, using(print_lines::proofs::Lines::lines))]
 pub(crate) fn put_edges<O: Output>(
     sheet: &mut Sheet,
     writer: &mut O,
@@ -156,7 +155,7 @@ pub(crate) fn put_edges<O: Output>(
 }
 
 /// Puts the line of a word that is written.
-#[tactic(auto, using(print_sheet::proofs::Passing::passing))]
+#[tactic(auto, using(print_lines::proofs::Passing::passing))]
 fn put_word<O: Output>(sheet: &mut Sheet, writer: &mut O, from: Location, word: Location)
     ensures { Passes (O.device writer.old) sheet.old (O.device writer.new) sheet.new
         (written_text from.number word.number) }
@@ -168,7 +167,7 @@ fn put_word<O: Output>(sheet: &mut Sheet, writer: &mut O, from: Location, word: 
 }
 
 /// Puts the lines of these words that the instructions of a location write.
-#[tactic(auto, using(print_sheet::proofs::Lines::lines))]
+#[tactic(auto, using(print_lines::proofs::Lines::lines))]
 pub(crate) fn put_words<O: Output>(
     sheet: &mut Sheet,
     writer: &mut O,

@@ -1,18 +1,17 @@
 //! The line of a box.
 
 ghost use Rattle.std.specs.Prelude.{◌≡◌, flat_map};
-ghost use Rattle.print_sheet.specs.Stands.{Passes};
+ghost use Rattle.print_lines.specs.Stands.{Passes};
 ghost use Rattle.print_graphs.specs.GraphOf.{node_of};
 ghost use Rattle.print_graphs.specs.GraphText.{border_text, box_text, content_text, label_text};
 ghost use Rattle.print_graphs.specs.GraphText.{operation_text, span_text, style_text};
 
 use crate::node::Node;
 use base_devices::Output;
-use print_lines::{put_location, two_digits};
-use print_sheet::Sheet;
+use print_lines::{Sheet, put_location, two_digits};
 
 /// Puts an operation of a label.
-#[tactic(auto, using(print_sheet::proofs::Passing::passing))]
+#[tactic(auto, using(print_lines::proofs::Passing::passing))]
 fn put_operation<O: Output>(sheet: &mut Sheet, writer: &mut O, op: u8)
     ensures { Passes (O.device writer.old) sheet.old (O.device writer.new) sheet.new
         (operation_text op) }
@@ -22,7 +21,7 @@ fn put_operation<O: Output>(sheet: &mut Sheet, writer: &mut O, op: u8)
 }
 
 /// Puts the operations of a label.
-#[tactic(auto, using(print_sheet::proofs::Passing::passing))]
+#[tactic(auto, using(print_lines::proofs::Passing::passing))]
 fn put_operations<O: Output>(sheet: &mut Sheet, writer: &mut O, operations: &[u8])
     ensures { Passes (O.device writer.old) sheet.old (O.device writer.new) sheet.new
         (flat_map operation_text operations.now) }
@@ -45,7 +44,7 @@ fn style(is_listed: bool, is_unfit: bool) -> &'static [u8]
 }
 
 /// Puts how the border of a word is drawn that may stop the run.
-#[tactic(auto, using(print_sheet::proofs::Passing::passing))]
+#[tactic(auto, using(print_lines::proofs::Passing::passing))]
 fn put_border<O: Output>(sheet: &mut Sheet, writer: &mut O, may_stop: bool)
     ensures { Passes (O.device writer.old) sheet.old (O.device writer.new) sheet.new
         (border_text may_stop) }
@@ -56,7 +55,7 @@ fn put_border<O: Output>(sheet: &mut Sheet, writer: &mut O, may_stop: bool)
 }
 
 /// Puts the end of several words, and how many they are.
-#[tactic(auto, using(print_sheet::proofs::Passing::passing))]
+#[tactic(auto, using(print_lines::proofs::Passing::passing))]
 fn put_span<O: Output>(sheet: &mut Sheet, writer: &mut O, node: &Node)
     ensures { Passes (O.device writer.old) sheet.old (O.device writer.new) sheet.new
         (span_text (node_of node.now)) }
@@ -69,7 +68,7 @@ fn put_span<O: Output>(sheet: &mut Sheet, writer: &mut O, node: &Node)
 }
 
 /// Puts a label behind its first location.
-#[tactic(auto, using(print_sheet::proofs::Passing::passing))]
+#[tactic(auto, using(print_lines::proofs::Passing::passing))]
 fn put_content<O: Output>(sheet: &mut Sheet, writer: &mut O, node: &Node)
     ensures { Passes (O.device writer.old) sheet.old (O.device writer.new) sheet.new
         (content_text (node_of node.now)) }
@@ -82,7 +81,7 @@ fn put_content<O: Output>(sheet: &mut Sheet, writer: &mut O, node: &Node)
 }
 
 /// Puts a label.
-#[tactic(auto, using(print_sheet::proofs::Passing::passing))]
+#[tactic(auto, using(print_lines::proofs::Passing::passing))]
 fn put_label<O: Output>(sheet: &mut Sheet, writer: &mut O, node: &Node)
     ensures { Passes (O.device writer.old) sheet.old (O.device writer.new) sheet.new
         (label_text (node_of node.now)) }
@@ -92,7 +91,7 @@ fn put_label<O: Output>(sheet: &mut Sheet, writer: &mut O, node: &Node)
 }
 
 /// Puts the line of a box.
-#[tactic(auto, using(print_sheet::proofs::Passing::passing))]
+#[tactic(auto, using(print_lines::proofs::Passing::passing))]
 pub(crate) fn put_box<O: Output>(sheet: &mut Sheet, writer: &mut O, node: &Node)
     ensures { Passes (O.device writer.old) sheet.old (O.device writer.new) sheet.new
         (box_text (node_of node.now)) }

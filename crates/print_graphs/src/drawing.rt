@@ -1,7 +1,7 @@
 //! A flow graph, written out in the language DOT.
 
 ghost use Rattle.std.specs.Prelude.{flat_map};
-ghost use Rattle.print_sheet.specs.Stands.{Passes};
+ghost use Rattle.print_lines.specs.Stands.{Passes};
 ghost use Rattle.print_graphs.specs.GraphOf.{edges_in, loops_in, node_of, nodes_in, start_of};
 ghost use Rattle.print_graphs.specs.GraphText.{graph_text, head_text, node_text};
 
@@ -13,11 +13,10 @@ use crate::node::Node;
 use base_devices::Output;
 use base_notes::Mark;
 use base_words::Location;
-use print_lines::put_location;
-use print_sheet::Sheet;
+use print_lines::{Sheet, put_location};
 
 /// Puts the beginning of a graph, with the arrow to the start.
-#[tactic(auto, using(print_sheet::proofs::Passing::passing))]
+#[tactic(auto, using(print_lines::proofs::Passing::passing))]
 fn put_head<O: Output>(sheet: &mut Sheet, writer: &mut O, start: Location)
     ensures { Passes (O.device writer.old) sheet.old (O.device writer.new) sheet.new
         (head_text start.number) }
@@ -31,7 +30,7 @@ fn put_head<O: Output>(sheet: &mut Sheet, writer: &mut O, start: Location)
 }
 
 /// Puts the lines of an executed word: its box, and its arrows.
-#[tactic(auto, using(print_sheet::proofs::Passing::passing))]
+#[tactic(auto, using(print_lines::proofs::Passing::passing))]
 fn put_node<O: Output>(
     sheet: &mut Sheet,
     writer: &mut O,
@@ -48,7 +47,7 @@ fn put_node<O: Output>(
 }
 
 /// Puts the lines of all executed words.
-#[tactic(auto, using(print_sheet::proofs::Lines::lines))]
+#[tactic(auto, using(print_lines::proofs::Lines::lines))]
 fn put_nodes<O: Output>(sheet: &mut Sheet, writer: &mut O, marks: &[Mark], graph: &Graph)
     ensures { Passes (O.device writer.old) sheet.old (O.device writer.new) sheet.new
         (flat_map (node_text marks.now (loops_in graph.now)) (nodes_in graph.now)) }
@@ -62,7 +61,7 @@ fn put_nodes<O: Output>(sheet: &mut Sheet, writer: &mut O, marks: &[Mark], graph
 /// each location where its instructions go on, with the mark that stands on that edge, or red if
 /// the edge closes a loop, and a dotted one to each executed word that they write. It takes no
 /// memory.
-#[tactic(auto, using(print_sheet::proofs::Passing::passing))]
+#[tactic(auto, using(print_lines::proofs::Passing::passing))]
 pub fn put_graph<O: Output>(sheet: &mut Sheet, writer: &mut O, marks: &[Mark], graph: &Graph)
     ensures { Passes (O.device writer.old) sheet.old (O.device writer.new) sheet.new
         (graph_text marks.now (loops_in graph.now) (start_of graph.now) (nodes_in graph.now)) }

@@ -4,15 +4,14 @@ ghost use Rattle.std.specs.Prelude.{◌≡◌, ◌+◌, ◌≤◌, ◌++◌, tru
 ghost use Rattle.base_words.specs.Op.{is_operand, op_of, operand_of};
 ghost use Rattle.base_words.specs.Word.{spaced};
 ghost use Rattle.machine_steps.specs.WaysLeft.{seen_way};
-ghost use Rattle.print_sheet.specs.Stands.{Passes};
+ghost use Rattle.print_lines.specs.Stands.{Passes};
 ghost use Rattle.print_hops.specs.ContentsText.{acted_text, acting as acting_in, words_text};
 
 use crate::timed_hop::TimedHop;
 use base_devices::Output;
 use base_words::{Op, Word};
 use machine_steps::Way;
-use print_lines::{four_digits, spelling_of};
-use print_sheet::Sheet;
+use print_lines::{Sheet, four_digits, spelling_of};
 
 /// The operation of a step that acts; none where it stops before.
 fn acting(told: &TimedHop) -> Option<Op>

@@ -3,7 +3,7 @@
 ghost use Rattle.std.specs.Prelude.{◌≡◌, ◌++◌, codes};
 ghost use Rattle.base_words.specs.Numeral.{digits_of};
 ghost use Rattle.machine_steps.specs.WaysLeft.{seen_way};
-ghost use Rattle.print_sheet.specs.Stands.{Passes};
+ghost use Rattle.print_lines.specs.Stands.{Passes};
 ghost use Rattle.print_hops.specs.TimedHop.{seen_timed};
 ghost use Rattle.print_hops.specs.WalkText.{hop_text, way_text};
 
@@ -12,8 +12,7 @@ use base_devices::Output;
 use base_words::Instruction;
 use itoa::Integer;
 use machine_steps::Way;
-use print_lines::{four_digits, put_location, put_named, two_digits};
-use print_sheet::Sheet;
+use print_lines::{Sheet, four_digits, put_location, put_named, two_digits};
 
 /// Puts an address behind a space.
 fn put_address<O: Output>(sheet: &mut Sheet, writer: &mut O, address: u16)

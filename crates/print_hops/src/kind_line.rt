@@ -4,7 +4,7 @@ ghost use Rattle.std.specs.Prelude.{◌≡◌, ◌^◌, ◌≤◌};
 ghost use Rattle.base_words.specs.Op.{op_of};
 ghost use Rattle.base_notes.specs.Entries.{entry_in};
 ghost use Rattle.machine_steps.specs.WaysLeft.{seen_way};
-ghost use Rattle.print_sheet.specs.Stands.{Passes};
+ghost use Rattle.print_lines.specs.Stands.{Passes};
 ghost use Rattle.print_hops.specs.Pieces.{angles_text, sums_text};
 ghost use Rattle.print_hops.specs.TimedHop.{seen_timed};
 ghost use Rattle.print_hops.specs.Waits.{data_angle, next_angle, on_drum};
@@ -20,7 +20,7 @@ use base_notes::Times;
 use base_words::{Location, Op, REVOLUTION};
 use machine_steps::Way;
 use machine_steps::chain::waits_for_operand;
-use print_sheet::Sheet;
+use print_lines::Sheet;
 
 /// The angle at which D would come just when it is wanted, where the hop waits for it and has it,
 /// and both its instruction and D are on the drum.

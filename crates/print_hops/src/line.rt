@@ -1,8 +1,8 @@
 ghost use Rattle.std.specs.Prelude.{ℕ, List};
-ghost use Rattle.print_sheet.specs.Stands.{Passes};
+ghost use Rattle.print_lines.specs.Stands.{Passes};
 
 use base_devices::Output;
-use print_sheet::Sheet;
+use print_lines::Sheet;
 
 /// What is put on a sheet as a line.
 pub trait Line {

@@ -1,18 +1,17 @@
 //! The moments of an instruction, and when its step ends, in a line.
 
 ghost use Rattle.std.specs.Prelude.{◌≡◌, ◌+◌, ◌^◌, ◌≤◌, option_map};
-ghost use Rattle.print_sheet.specs.Stands.{Passes};
+ghost use Rattle.print_lines.specs.Stands.{Passes};
 ghost use Rattle.print_hops.specs.Moments.{later as later_by};
 ghost use Rattle.print_hops.specs.Pieces.{named_text, times_text, told_text};
 
 use crate::moments::Moments;
 use base_devices::Output;
 use itoa::Integer;
-use print_lines::put_named;
-use print_sheet::Sheet;
+use print_lines::{Sheet, put_named};
 
 /// Puts a moment with its name, where there is one.
-#[tactic(auto, using(print_sheet::proofs::Passing::passing))]
+#[tactic(auto, using(print_lines::proofs::Passing::passing))]
 pub(crate) fn put_moment<O: Output, I: Integer>(
     sheet: &mut Sheet,
     writer: &mut O,

@@ -3,7 +3,7 @@
 ghost use Rattle.std.specs.Prelude.{◌≡◌, List};
 ghost use Rattle.machine_steps.specs.declared.card.Card.{Card};
 ghost use Rattle.machine_emulator.specs.Machine.{held_by};
-ghost use Rattle.print_sheet.specs.Stands.{Passes};
+ghost use Rattle.print_lines.specs.Stands.{Passes};
 ghost use Rattle.print_hops.specs.ContentsText.{
   accumulator_text,
   latch_text as latch_of,
@@ -14,8 +14,7 @@ ghost use Rattle.print_hops.specs.ContentsText.{
 
 use base_devices::Output;
 use machine_emulator::Machine;
-use print_lines::spelling_of;
-use print_sheet::Sheet;
+use print_lines::{Sheet, spelling_of};
 
 /// The sign of what is minus, or isn't.
 fn sign(minus: bool) -> u8
@@ -39,7 +38,7 @@ fn spelled(number: i128) -> [u8; 21]
 }
 
 /// Puts a remainder's sign, while it stands.
-#[tactic(auto, using(print_sheet::proofs::Passing::passing))]
+#[tactic(auto, using(print_lines::proofs::Passing::passing))]
 fn put_remainder<O: Output>(sheet: &mut Sheet, writer: &mut O, remainder: Option<bool>)
     ensures { Passes (O.device writer.old) sheet.old (O.device writer.new) sheet.new
         (remainder_text remainder) }

@@ -13,7 +13,7 @@ ghost use Rattle.machine_emulator.specs.Machine.{held_by};
 ghost use Rattle.machine_emulator.specs.Machine.{IsToldOf};
 ghost use Rattle.flow_graph.specs.RunHops.{hop_of};
 ghost use Rattle.flow_walks.specs.Visited.{visited};
-ghost use Rattle.print_sheet.specs.Stands.{Passes};
+ghost use Rattle.print_lines.specs.Stands.{Passes};
 ghost use Rattle.print_hops.specs.Pieces.{fetch_text, held_text, times_text};
 ghost use Rattle.print_hops.specs.StepOf.{IsStepOf};
 ghost use Rattle.print_hops.specs.TimedHop.{seen_timed};
@@ -29,8 +29,7 @@ use base_notes::Times;
 use base_words::{Instruction, Location, Word};
 use machine_emulator::{Machine, Step};
 use machine_steps::{Way, Why};
-use print_lines::{put_location, spelling_of};
-use print_sheet::Sheet;
+use print_lines::{Sheet, put_location, spelling_of};
 
 /// How a step that stops ends.
 fn way_of(why: Why) -> Way
@@ -112,7 +111,7 @@ fn put_fetch<O: Output>(
 
 /// Puts the number of a step, what it has fetched where, when it begins, its moments and when it
 /// ends.
-#[tactic(auto, using(print_sheet::proofs::Passing::passing))]
+#[tactic(auto, using(print_lines::proofs::Passing::passing))]
 fn put_course<O: Output>(
     sheet: &mut Sheet,
     writer: &mut O,

@@ -1,11 +1,11 @@
 //! The line of all hops.
 
-ghost use Rattle.print_sheet.specs.Stands.{Passes};
+ghost use Rattle.print_lines.specs.Stands.{Passes};
 ghost use Rattle.print_hops.specs.KindsOf.{waited_line};
 
 use crate::waited::Waited;
 use base_devices::Output;
-use print_sheet::Sheet;
+use print_lines::Sheet;
 
 /// Puts the line of what all hops of a walk take, `time` word times.
 pub fn put_total<O: Output>(sheet: &mut Sheet, writer: &mut O, time: u128, waited: &Waited)

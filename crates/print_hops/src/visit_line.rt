@@ -12,7 +12,7 @@ use crate::timed_hop::TimedHop;
 use base_devices::Output;
 use base_notes::Times;
 use flow_walks::Visit;
-use print_sheet::Sheet;
+use print_lines::Sheet;
 
 /// A visit with the timing table of its walk, whose drum has this angle at time 0.
 #[derive(Drop)]

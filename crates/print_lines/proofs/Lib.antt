@@ -1,1 +1,4 @@
+pub mod Lines
 pub mod NoLine
+pub mod Passing
+pub mod Turning

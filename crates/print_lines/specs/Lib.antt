@@ -2,8 +2,10 @@ pub mod BoundText
 pub mod Does
 pub mod FaultStatus
 pub mod FaultText
+pub mod Gets
 pub mod NameText
 pub mod Output
 pub mod Reply
+pub mod Stands
 pub mod Status
 pub mod VerdictText

@@ -1,7 +1,7 @@
 -- What standard output and standard error get of a reply, and how the program ends.
 use Rattle.std.specs.Prelude.{◌≡◌, ℕ, List, ◌⊎◌}
 use Rattle.base_devices.specs.Device.{Device}
-use Rattle.print_sheet.specs.Gets.{GetsAll, GetsPrefix}
+use Rattle.print_lines.specs.Gets.{GetsAll, GetsPrefix}
 use Rattle.print_lines.specs.declared.status.Status.{Status}
 use Rattle.print_lines.specs.declared.status.Status.TheVariants.{Failed, Refused}
 use Rattle.print_lines.specs.Reply.{Reply, says, complains, lists, breaks_off}

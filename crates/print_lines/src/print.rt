@@ -2,7 +2,7 @@
 
 ghost use Rattle.std.specs.Prelude.{◌≡◌, ◌++◌, codes};
 ghost use Rattle.base_words.specs.Numeral.{digits_of};
-ghost use Rattle.print_sheet.specs.Stands.{Passes};
+ghost use Rattle.print_lines.specs.Stands.{Passes};
 ghost use Rattle.print_lines.specs.BoundText.{bound_text};
 
 mod deck_fault;
@@ -14,10 +14,10 @@ mod part_fault;
 mod refusal_line;
 pub mod verdict_line;
 
+use crate::sheet::Sheet;
 use base_devices::Output;
 use base_words::Location;
 use itoa::Integer;
-use print_sheet::Sheet;
 
 /// Puts the line of a bound, in word times.
 pub fn put_bound<O: Output>(sheet: &mut Sheet, writer: &mut O, bound: u64)
@@ -36,7 +36,7 @@ pub fn put_location<O: Output>(sheet: &mut Sheet, writer: &mut O, location: Loca
 }
 
 /// Puts a name and a number.
-#[tactic(auto, using(print_sheet::proofs::Passing::passing))]
+#[tactic(auto, using(crate::proofs::Passing::passing))]
 pub fn put_named<O: Output, I: Integer>(sheet: &mut Sheet, writer: &mut O, name: &[u8], number: I)
     ensures { Passes (O.device writer.old) sheet.old (O.device writer.new) sheet.new
         (name.now ++ I.text number) }
@@ -46,7 +46,7 @@ pub fn put_named<O: Output, I: Integer>(sheet: &mut Sheet, writer: &mut O, name:
 }
 
 /// Puts a line of a text and a number.
-#[tactic(auto, using(print_sheet::proofs::Passing::passing))]
+#[tactic(auto, using(crate::proofs::Passing::passing))]
 fn put_numbered<O: Output, I: Integer>(sheet: &mut Sheet, writer: &mut O, text: &[u8], number: I)
     ensures { Passes (O.device writer.old) sheet.old (O.device writer.new) sheet.new
         (text.now ++ I.text number ++ codes "\n") }
@@ -56,7 +56,7 @@ fn put_numbered<O: Output, I: Integer>(sheet: &mut Sheet, writer: &mut O, text: 
 }
 
 /// Puts a line of a text and a location.
-#[tactic(auto, using(print_sheet::proofs::Passing::passing))]
+#[tactic(auto, using(crate::proofs::Passing::passing))]
 pub fn put_located<O: Output>(sheet: &mut Sheet, writer: &mut O, text: &[u8], location: Location)
     ensures { Passes (O.device writer.old) sheet.old (O.device writer.new) sheet.new
         (text.now ++ digits_of 4 location.number ++ codes "\n") }

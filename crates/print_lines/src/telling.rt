@@ -2,7 +2,7 @@
 
 ghost use Rattle.std.specs.Prelude.{◌≡◌, ℕ, List};
 ghost use Rattle.base_devices.specs.Device.{Device};
-ghost use Rattle.print_sheet.specs.Stands.{Stands};
+ghost use Rattle.print_lines.specs.Stands.{Stands};
 ghost use Rattle.print_lines.specs.BoundText.{bound_text};
 ghost use Rattle.print_lines.specs.FaultStatus.{status_after};
 ghost use Rattle.print_lines.specs.FaultText.{fault_text};
@@ -15,10 +15,10 @@ use crate::limit::Limit;
 use crate::print::fault_line::put_fault;
 use crate::print::put_bound;
 use crate::print::verdict_line::put_verdict;
+use crate::sheet::Sheet;
 use crate::status::Status;
 use base_devices::Output;
 use machine_steps::Verdict;
-use print_sheet::Sheet;
 
 /// Writes what is still held back of a result, and tells how the program ends: so, or by a write
 /// that failed.

@@ -3,7 +3,7 @@
 ghost use Rattle.std.specs.Prelude.{◌≡◌, ◌<◌, ◌^◌, length};
 ghost use Rattle.bound_scan.specs.AnalysisOf.{visits_of};
 ghost use Rattle.base_devices.specs.Device.{failures_after};
-ghost use Rattle.print_sheet.specs.Stands.{Passes};
+ghost use Rattle.print_lines.specs.Stands.{Passes};
 ghost use Rattle.print_walks.specs.Report.{report_text};
 ghost use Rattle.print_walks.specs.Written.{IsWritten};
 
@@ -16,8 +16,7 @@ use base_devices::Output;
 use base_notes::Notes;
 use bound_scan::Analysis;
 use lines::{put_cards, put_marks, put_other};
-use print_lines::put_bound;
-use print_sheet::Sheet;
+use print_lines::{Sheet, put_bound};
 use read_decks::Deck;
 use tallies::Tallies;
 

@@ -4,7 +4,7 @@ ghost use Rattle.std.specs.Prelude.{flat_map};
 ghost use Rattle.base_notes.specs.Entries.{entry_in};
 ghost use Rattle.flow_walks.specs.Visited.{seen_visit};
 ghost use Rattle.bound_scan.specs.AnalysisOf.{angle_of, bound_of, visits_of};
-ghost use Rattle.print_sheet.specs.Stands.{Passes};
+ghost use Rattle.print_lines.specs.Stands.{Passes};
 ghost use Rattle.print_hops.specs.WalkText.{visit_line, walk_text};
 
 use base_devices::Output;
@@ -12,8 +12,7 @@ use base_notes::Times;
 use bound_scan::Analysis;
 use flow_walks::Visit;
 use print_hops::{Line, VisitLine};
-use print_lines::put_bound;
-use print_sheet::Sheet;
+use print_lines::{Sheet, put_bound};
 
 /// Puts the lines of a walk.
 fn put_visits<O: Output>(

@@ -6,8 +6,9 @@ ghost use Rattle.program_limits.specs.Limits.{HaveNoBound, IsCeilingFault};
 ghost use Rattle.program_answers.specs.Basis.{IsBasis};
 
 use crate::analysis::analysis_of;
-use bound_scan::{Analysis, Refusal};
+use bound_scan::Analysis;
 use ceiling_checked::Bracket;
+use flow_graph::Refusal;
 use print_lines::Fault;
 use program_limits::bracket_of;
 use read_documents::Documents;

@@ -22,8 +22,7 @@ use bound_scan::Analysis;
 use ceiling_checked::Bracket;
 use print_ceilings::{PieceIndex, WaitsInRounds, put_ceiling, put_rounds, put_rounds_waits};
 use print_graphs::{Graph, put_graph};
-use print_lines::{Status, end_result};
-use print_sheet::Sheet;
+use print_lines::{Sheet, Status, end_result};
 use print_walks::{Table, Waits, put_table, put_waits, put_walk, report};
 use read_documents::Documents;
 

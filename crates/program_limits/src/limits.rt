@@ -5,10 +5,10 @@ ghost use Rattle.program_limits.specs.Limits.{HaveNoBound, IsAnalysisFault};
 ghost use Rattle.program_limits.specs.Limits.{IsBound, IsBracket, IsCeiling, IsCeilingFault};
 ghost use Rattle.program_limits.specs.Limits.{IsLimit, IsLimitFault, IsProduct};
 
-use bound_scan::{Refusal, bound};
+use bound_scan::bound;
 use ceiling_checked::{Bracket, Ceiling, ceiling, reached};
 use flow_acceptance::counts::product_of;
-use flow_graph::rediscover;
+use flow_graph::{Refusal, rediscover};
 use print_lines::{Fault, Limit};
 use read_documents::Documents;
 use std::alloc::Global;

@@ -25,8 +25,8 @@ use Rattle.machine_emulator.specs.Fed.{op_in}
 use Rattle.machine_emulator.specs.Machine.{GoesOn, Tells, Becomes, TakesStep, state_in, used_by, sought_by}
 use Rattle.machine_emulator.specs.Machine.{held_by, punched_with}
 use Rattle.machine_emulator.specs.Machine.{IsToldOf}
-use Rattle.machine_monitor.specs.declared.monitor.Monitor.{Monitor}
-use Rattle.machine_monitor.specs.Monitor.{HasSeenKept, answer_of}
+use Rattle.machine_emulator.specs.declared.monitor.Monitor.{Monitor}
+use Rattle.machine_emulator.specs.Monitor.{HasSeenKept, answer_of}
 use Rattle.flow_graph.specs.Walk.{Setting}
 use Rattle.flow_graph.specs.Bounded.{IsBounded}
 use Rattle.machine_steps.specs.declared.verdict.Verdict.TheVariants.{Kept, Left}

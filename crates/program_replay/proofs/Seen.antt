@@ -26,7 +26,7 @@ use Rattle.machine_steps.specs.Run.{Stride}
 use Rattle.machine_steps.specs.Step.{Stepped, on, stopped, fetched, instruction_in}
 use Rattle.machine_emulator.specs.declared.step.Step.TheVariants.{Went}
 use Rattle.machine_emulator.specs.Machine.{Tells}
-use Rattle.machine_monitor.proofs.Watching.{over_more}
+use Rattle.machine_emulator.proofs.Watching.{over_more}
 use Rattle.program_replay.specs.declared.coverage.Coverage.{Coverage}
 use Rattle.program_replay.specs.CoverageOf.{HasSeen, counts_of, flags_of, passed_at}
 use Rattle.program_replay.proofs.Flags.{map_same}

@@ -9,7 +9,7 @@ use Rattle.machine_emulator.specs.Feed.{cards_left, waits_left}
 use Rattle.machine_emulator.specs.FirstState.{IsSetUp}
 use Rattle.machine_emulator.specs.Fed.{op_in, wait_with, waits_with}
 use Rattle.machine_emulator.specs.Machine.{GoesOn, state_in, used_by}
-use Rattle.machine_monitor.specs.Monitor.{HasSeenKept, answer_of}
+use Rattle.machine_emulator.specs.Monitor.{HasSeenKept, answer_of}
 use Rattle.flow_graph.specs.Accepted.{IsFixed}
 use Rattle.flow_graph.specs.Walk.{Setting}
 use Rattle.machine_steps.specs.declared.verdict.Verdict.{Verdict}

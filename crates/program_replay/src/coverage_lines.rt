@@ -4,15 +4,14 @@ ghost use Rattle.std.specs.Prelude.{◌≡◌, ◌≤◌, List, flat_map, length
 ghost use Rattle.std.specs.List.{enumerate_from};
 ghost use Rattle.base_notes.specs.Listed.{listed};
 ghost use Rattle.machine_steps.specs.Run.{Stride};
-ghost use Rattle.print_sheet.specs.Stands.{Passes};
+ghost use Rattle.print_lines.specs.Stands.{Passes};
 ghost use Rattle.program_replay.specs.Coverage.{coverage_text, list_line, mark_line, mark_line_at};
 ghost use Rattle.program_replay.specs.CoverageOf.{HasSeen, list_line_at, passed_at};
 
 use crate::coverage::Coverage;
 use base_devices::Output;
 use base_notes::{Listing, Mark, Notes};
-use print_lines::{put_location, put_name};
-use print_sheet::Sheet;
+use print_lines::{Sheet, put_location, put_name};
 
 /// Puts the line of a mark that was passed so often at most.
 fn put_mark<O: Output>(sheet: &mut Sheet, writer: &mut O, mark: &Mark, passed: u16)

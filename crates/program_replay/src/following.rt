@@ -14,8 +14,7 @@ ghost use Rattle.program_replay.specs.Following.{AreOfRun, CanBegin, IsFollowed,
 ghost use Rattle.program_replay.specs.Following.{stride_of, used_so_far, state_of, waits_of};
 
 use base_notes::{Notes, Times};
-use machine_emulator::{Feed, Machine, Step};
-use machine_monitor::Monitor;
+use machine_emulator::{Feed, Machine, Monitor, Step};
 use machine_steps::Verdict;
 use read_decks::Deck;
 

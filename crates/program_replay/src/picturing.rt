@@ -17,7 +17,7 @@ use crate::following::Following;
 use crate::replaying::{Begun, begin_replay};
 use base_devices::Output;
 use base_notes::{Notes, Times};
-use bound_scan::Refusal;
+use flow_graph::Refusal;
 use machine_steps::Verdict;
 use picture_walks::{Run, picture_of_run};
 use print_lines::{Fault, Status, tell_text};

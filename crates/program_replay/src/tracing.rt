@@ -7,7 +7,7 @@ ghost use Rattle.machine_steps.specs.Run.{Stride};
 ghost use Rattle.flow_graph.specs.SettingOf.{setting};
 ghost use Rattle.flow_graph.specs.Bounded.{IsBounded};
 ghost use Rattle.base_devices.specs.Device.{Device};
-ghost use Rattle.print_sheet.specs.Stands.{Passes};
+ghost use Rattle.print_lines.specs.Stands.{Passes};
 ghost use Rattle.print_lines.specs.Output.{Tells};
 ghost use Rattle.print_lines.specs.Reply.{Reply};
 ghost use Rattle.print_lines.specs.VerdictText.{verdict_text};
@@ -29,8 +29,7 @@ use base_devices::Output;
 use base_notes::{Notes, Times};
 use machine_steps::{Left, Verdict};
 use print_hops::put_step;
-use print_lines::{Limit, Status, end_result, put_verdict};
-use print_sheet::Sheet;
+use print_lines::{Limit, Sheet, Status, end_result, put_verdict};
 use read_decks::Deck;
 use read_documents::Documents;
 

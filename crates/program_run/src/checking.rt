@@ -20,8 +20,7 @@ ghost use Rattle.program_run.specs.SaysCheck.{AreLinesOfFaults, RefusesCheck, st
 use base_devices::Output;
 use check_deck::Findings;
 use check_findings::Lacking;
-use print_lines::{Fault, Status, end_result};
-use print_sheet::Sheet;
+use print_lines::{Fault, Sheet, Status, end_result};
 use program_command::Files;
 use read_decks::laws::not_refused;
 use read_documents::{Documents, Texts};

@@ -5,12 +5,9 @@
 use crate::texts::{
     BACK, BOTH_ROADS, BRANCH_BACK, LOOPS, NESTED, NOTES, ROADS, TIMES, TWO_ROADS, TWO_WORDS,
 };
-use base_devices::Reading;
-use base_words::{Location, Parity};
-use bound_scan::{Hop, Way, analyse, flow};
-use machine_rotation::{AtAngle, AtParity, Clockwork, Delay, Then};
-use read_decks::read_deck;
-use read_toml::{read_notes, read_times};
+use drum_bound::{Hop, Way, analyse, flow};
+use drum_core::{AtAngle, AtParity, Clockwork, Delay, Location, Parity, Reading, Then, read_deck};
+use drum_times::{read_notes, read_times};
 use std::alloc::{AllocError, Global};
 use std::process::Abort;
 use std::test::Fail;

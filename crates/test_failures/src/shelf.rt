@@ -3,8 +3,8 @@
 ghost use Rattle.std.specs.Prelude.{◌≡◌, None};
 
 use crate::devices::Tap;
-use base_devices::{Input, Reading};
-use program_run::Source;
+use drum_core::{Input, Reading};
+use drum_tool::Source;
 
 /// Files, each by its name. It takes no memory, and no contract tells what they hold.
 #[derive(Drop)]

@@ -2,7 +2,7 @@
 
 ghost use Rattle.std.specs.Prelude.{flat_map};
 ghost use Rattle.base_notes.specs.Entries.{entry_in};
-ghost use Rattle.print_sheet.specs.Stands.{Passes};
+ghost use Rattle.print_lines.specs.Stands.{Passes};
 ghost use Rattle.print_ceilings.specs.RoundsWaitsOf.{listed, row_text};
 
 use super::WaitsInRounds;
@@ -12,10 +12,10 @@ use base_devices::Output;
 use base_notes::Times;
 use ceiling_checked::Bracket;
 use print_hops::{put_kind, put_total};
-use print_sheet::Sheet;
+use print_lines::Sheet;
 
 /// Puts the lines of rows.
-#[tactic(auto, using(print_sheet::proofs::Passing::passing))]
+#[tactic(auto, using(print_lines::proofs::Passing::passing))]
 fn put_rows<O: Output>(sheet: &mut Sheet, writer: &mut O, rows: &[KindRow], times: &Times)
     ensures { Passes (O.device writer.old) sheet.old (O.device writer.new) sheet.new
         (flat_map (row_text (entry_in times.now)) rows.now) }

@@ -1,9 +1,9 @@
-ghost use Rattle.print_sheet.specs.Stands.{Passes};
+ghost use Rattle.print_lines.specs.Stands.{Passes};
 ghost use Rattle.print_lines.specs.FaultText.{deck_text};
 
 use super::{put_located, put_numbered};
+use crate::sheet::Sheet;
 use base_devices::Output;
-use print_sheet::Sheet;
 use read_decks::DeckFault;
 
 /// Puts the line of a fault of the deck.

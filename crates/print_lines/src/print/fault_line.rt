@@ -1,4 +1,4 @@
-ghost use Rattle.print_sheet.specs.Stands.{Passes};
+ghost use Rattle.print_lines.specs.Stands.{Passes};
 ghost use Rattle.print_lines.specs.FaultText.{fault_text};
 
 use super::deck_fault::put_deck_fault;
@@ -9,8 +9,8 @@ use super::put_located;
 use super::refusal_line::put_refusal;
 use crate::fault::Fault;
 use crate::part::Part;
+use crate::sheet::Sheet;
 use base_devices::Output;
-use print_sheet::Sheet;
 
 /// Puts the line of a fault.
 pub fn put_fault<O: Output>(sheet: &mut Sheet, writer: &mut O, fault: &Fault)

@@ -1,14 +1,14 @@
 //! The name of a mark at the end of its line.
 
-ghost use Rattle.print_sheet.specs.Stands.{Passes};
+ghost use Rattle.print_lines.specs.Stands.{Passes};
 ghost use Rattle.print_lines.specs.NameText.{name_text};
 
+use crate::sheet::Sheet;
 use base_devices::Output;
 use base_notes::Mark;
-use print_sheet::Sheet;
 
 /// Puts what ends the line of a mark with its name; nothing where it has none.
-#[tactic(auto, using(print_sheet::proofs::Passing::passing))]
+#[tactic(auto, using(crate::proofs::Passing::passing))]
 pub fn put_name<O: Output>(sheet: &mut Sheet, writer: &mut O, mark: &Mark)
     ensures { Passes (O.device writer.old) sheet.old (O.device writer.new) sheet.new
         (name_text mark.now.name) }

@@ -1,17 +1,17 @@
 //! The line of a fault in the timing table or in the notes.
 
 ghost use Rattle.std.specs.Prelude.{◌++◌, codes, string_bytes};
-ghost use Rattle.print_sheet.specs.Stands.{Passes};
+ghost use Rattle.print_lines.specs.Stands.{Passes};
 ghost use Rattle.base_notes.specs.declared.fault.NoteFault.TheVariants.{TwoLists, TwoMarks};
 ghost use Rattle.print_lines.specs.FaultText.{note_text, part_name};
 
 use super::part_fault::put_part;
 use super::put_location;
 use crate::part::Part;
+use crate::sheet::Sheet;
 use base_devices::Output;
 use base_notes::{KeyPath, NoteFault};
 use base_words::Location;
-use print_sheet::Sheet;
 
 /// Puts the line of a fault of this part, which is the timing table or the notes.
 pub fn put_note_fault<O: Output>(sheet: &mut Sheet, writer: &mut O, part: Part, fault: &NoteFault)
@@ -31,7 +31,7 @@ pub fn put_note_fault<O: Output>(sheet: &mut Sheet, writer: &mut O, part: Part, 
 }
 
 /// Puts a line of a text, the name of a part, another text and a key.
-#[tactic(auto, using(print_sheet::proofs::Passing::passing))]
+#[tactic(auto, using(crate::proofs::Passing::passing))]
 fn put_key<O: Output>(
     sheet: &mut Sheet,
     writer: &mut O,
@@ -49,7 +49,7 @@ fn put_key<O: Output>(
 }
 
 /// Puts the line of two marks on one edge.
-#[tactic(auto, using(print_sheet::proofs::Passing::passing))]
+#[tactic(auto, using(crate::proofs::Passing::passing))]
 fn put_two_marks<O: Output>(
     sheet: &mut Sheet,
     writer: &mut O,
@@ -68,7 +68,7 @@ fn put_two_marks<O: Output>(
 }
 
 /// Puts the line of two lists for one location.
-#[tactic(auto, using(print_sheet::proofs::Passing::passing))]
+#[tactic(auto, using(crate::proofs::Passing::passing))]
 fn put_two_lists<O: Output>(sheet: &mut Sheet, writer: &mut O, part: Part, location: Location)
     ensures { Passes (O.device writer.old) sheet.old (O.device writer.new) sheet.new
         (note_text (part_name part) (TwoLists location)) }

@@ -1,12 +1,12 @@
 //! The line of a part that can't be had.
 
 ghost use Rattle.std.specs.Prelude.{◌≡◌, ◌++◌};
-ghost use Rattle.print_sheet.specs.Stands.{Passes};
+ghost use Rattle.print_lines.specs.Stands.{Passes};
 ghost use Rattle.print_lines.specs.FaultText.{part_name, part_text};
 
 use crate::part::{Part, PartFault};
+use crate::sheet::Sheet;
 use base_devices::Output;
-use print_sheet::Sheet;
 
 /// What a part is called in the lines of faults.
 fn name_of(part: Part) -> &'static [u8]
@@ -22,7 +22,7 @@ fn name_of(part: Part) -> &'static [u8]
 }
 
 /// Puts a text, the name of a part, and another text.
-#[tactic(auto, using(print_sheet::proofs::Passing::passing))]
+#[tactic(auto, using(crate::proofs::Passing::passing))]
 pub fn put_part<O: Output>(sheet: &mut Sheet, writer: &mut O, begin: &[u8], part: Part, end: &[u8])
     ensures { Passes (O.device writer.old) sheet.old (O.device writer.new) sheet.new
         (begin.now ++ part_name part ++ end.now) }

@@ -1,16 +1,16 @@
 //! The line of a deck that the analysis refuses.
 
 ghost use Rattle.std.specs.Prelude.{flat_map};
-ghost use Rattle.print_sheet.specs.Stands.{Passes};
+ghost use Rattle.print_lines.specs.Stands.{Passes};
 ghost use Rattle.flow_graph.specs.declared.refusal.Refusal.TheVariants.{Alters, NotInProfile};
 ghost use Rattle.flow_graph.specs.declared.refusal.Refusal.TheVariants.{Unbounded};
 ghost use Rattle.print_lines.specs.FaultText.{next_location, refusal_text};
 
 use super::{put_located, put_location, put_numbered, two_digits};
+use crate::sheet::Sheet;
 use base_devices::Output;
 use base_words::Location;
 use flow_graph::{Cycle, Refusal};
-use print_sheet::Sheet;
 
 /// Puts the line of a refusal.
 pub fn put_refusal<O: Output>(sheet: &mut Sheet, writer: &mut O, refusal: &Refusal)
@@ -34,7 +34,7 @@ pub fn put_refusal<O: Output>(sheet: &mut Sheet, writer: &mut O, refusal: &Refus
 }
 
 /// Puts the line of an operation that isn't in the profile.
-#[tactic(auto, using(print_sheet::proofs::Passing::passing))]
+#[tactic(auto, using(crate::proofs::Passing::passing))]
 fn put_not_in_profile<O: Output>(sheet: &mut Sheet, writer: &mut O, location: Location, op: u8)
     ensures { Passes (O.device writer.old) sheet.old (O.device writer.new) sheet.new
         (refusal_text (NotInProfile location op)) }
@@ -47,7 +47,7 @@ fn put_not_in_profile<O: Output>(sheet: &mut Sheet, writer: &mut O, location: Lo
 }
 
 /// Puts the line of a location that another one's instruction alters.
-#[tactic(auto, using(print_sheet::proofs::Passing::passing))]
+#[tactic(auto, using(crate::proofs::Passing::passing))]
 fn put_alters<O: Output>(sheet: &mut Sheet, writer: &mut O, from: Location, word: Location)
     ensures { Passes (O.device writer.old) sheet.old (O.device writer.new) sheet.new
         (refusal_text (Alters from word)) }
@@ -60,7 +60,7 @@ fn put_alters<O: Output>(sheet: &mut Sheet, writer: &mut O, from: Location, word
 }
 
 /// Puts the line of a cycle.
-#[tactic(auto, using(print_sheet::proofs::Passing::passing))]
+#[tactic(auto, using(crate::proofs::Passing::passing))]
 fn put_cycle<O: Output>(sheet: &mut Sheet, writer: &mut O, cycle: &Cycle)
     ensures { Passes (O.device writer.old) sheet.old (O.device writer.new) sheet.new
         (refusal_text (Unbounded cycle.now)) }
@@ -71,7 +71,7 @@ fn put_cycle<O: Output>(sheet: &mut Sheet, writer: &mut O, cycle: &Cycle)
 }
 
 /// Puts a location, after a space.
-#[tactic(auto, using(print_sheet::proofs::Passing::passing))]
+#[tactic(auto, using(crate::proofs::Passing::passing))]
 fn put_next<O: Output>(sheet: &mut Sheet, writer: &mut O, location: Location)
     ensures { Passes (O.device writer.old) sheet.old (O.device writer.new) sheet.new
         (next_location location) }
@@ -81,7 +81,7 @@ fn put_next<O: Output>(sheet: &mut Sheet, writer: &mut O, location: Location)
 }
 
 /// Puts locations, each after a space.
-#[tactic(auto, using(print_sheet::proofs::Passing::passing))]
+#[tactic(auto, using(crate::proofs::Passing::passing))]
 fn put_locations<O: Output>(sheet: &mut Sheet, writer: &mut O, locations: &[Location])
     ensures { Passes (O.device writer.old) sheet.old (O.device writer.new) sheet.new
         (flat_map next_location locations.now) }

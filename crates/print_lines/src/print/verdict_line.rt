@@ -3,17 +3,17 @@
 ghost use Rattle.std.specs.Prelude.{◌≡◌, ◌++◌, codes, decimal};
 ghost use Rattle.base_words.specs.Numeral.{digits_of};
 ghost use Rattle.base_words.specs.Word.{spelling};
-ghost use Rattle.print_sheet.specs.Stands.{Passes};
+ghost use Rattle.print_lines.specs.Stands.{Passes};
 ghost use Rattle.machine_steps.specs.declared.left.Left.TheVariants.{Unlisted};
 ghost use Rattle.machine_steps.specs.declared.verdict.Verdict.TheVariants.{Kept};
 ghost use Rattle.print_lines.specs.VerdictText.{left_text, limit_name, verdict_text, why_name};
 
 use super::put_location;
 use crate::limit::Limit;
+use crate::sheet::Sheet;
 use base_devices::Output;
 use base_words::{Location, Word};
 use machine_steps::{Left, Verdict, Why};
-use print_sheet::Sheet;
 
 /// Puts the line of a verdict on a run, whose word times are limited in this way.
 pub fn put_verdict<O: Output>(sheet: &mut Sheet, writer: &mut O, limit: Limit, verdict: &Verdict)
@@ -135,7 +135,7 @@ fn put_edge<O: Output>(
 }
 
 /// Puts a line of a text, a step and the word times used before it.
-#[tactic(auto, using(print_sheet::proofs::Passing::passing))]
+#[tactic(auto, using(crate::proofs::Passing::passing))]
 fn put_at_step<O: Output>(sheet: &mut Sheet, writer: &mut O, text: &[u8], step: u64, used: u64)
     ensures { Passes (O.device writer.old) sheet.old (O.device writer.new) sheet.new
         (text.now ++ decimal step ++ codes " used " ++ decimal used ++ codes "\n") }

@@ -3,7 +3,7 @@
 ghost use Rattle.std.specs.Prelude.{◌≡◌, ◌≤◌, List, length, flat_map};
 ghost use Rattle.read_decks.specs.InDeck.{cards_in};
 ghost use Rattle.flow_walks.specs.Visited.{Visited};
-ghost use Rattle.print_sheet.specs.Stands.{Passes};
+ghost use Rattle.print_lines.specs.Stands.{Passes};
 ghost use Rattle.print_lines.specs.NameText.{name_text};
 ghost use Rattle.print_walks.specs.Report.{card_line, mark_line};
 ghost use Rattle.print_walks.specs.TalliesOf.{AreByLine, ArePasses, told_of, told_of_card};
@@ -13,8 +13,7 @@ use super::tallies::LINES;
 use super::tally::Tally;
 use base_devices::Output;
 use base_notes::Mark;
-use print_lines::{four_digits, put_location, put_name, put_named};
-use print_sheet::Sheet;
+use print_lines::{Sheet, four_digits, put_location, put_name, put_named};
 use read_decks::Deck;
 
 /// Puts what a tally says, and the end of its line.

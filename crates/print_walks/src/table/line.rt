@@ -2,7 +2,7 @@
 
 ghost use Rattle.std.specs.Prelude.{◌≡◌, ◌≤◌, ◌++◌, codes, decimal, flat_map, length};
 ghost use Rattle.base_words.specs.Numeral.{digits_of};
-ghost use Rattle.print_sheet.specs.Stands.{Passes};
+ghost use Rattle.print_lines.specs.Stands.{Passes};
 ghost use Rattle.bound_scan.specs.RowOf.{row_in};
 ghost use Rattle.print_walks.specs.TableText.{count_text, row_line};
 
@@ -10,8 +10,7 @@ use base_devices::Output;
 use base_notes::Mark;
 use bound_scan::Worst;
 use print_hops::Line;
-use print_lines::{put_location, put_named};
-use print_sheet::Sheet;
+use print_lines::{Sheet, put_location, put_named};
 
 /// An entry, with the marks of the notes.
 #[derive(Drop)]
@@ -44,7 +43,7 @@ fn put_place<O: Output>(sheet: &mut Sheet, writer: &mut O, row: &Worst)
 }
 
 /// Puts counts, each behind a space.
-#[tactic(auto, using(print_sheet::proofs::Passing::passing))]
+#[tactic(auto, using(print_lines::proofs::Passing::passing))]
 fn put_counts<O: Output>(sheet: &mut Sheet, writer: &mut O, counts: &[u16])
     ensures { Passes (O.device writer.old) sheet.old (O.device writer.new) sheet.new
         (flat_map count_text counts.now) }

@@ -2,7 +2,7 @@
 
 ghost use Rattle.std.specs.Prelude.{◌≤◌, flat_map, length};
 ghost use Rattle.bound_scan.specs.RowOf.{row_in};
-ghost use Rattle.print_sheet.specs.Stands.{Passes};
+ghost use Rattle.print_lines.specs.Stands.{Passes};
 ghost use Rattle.print_walks.specs.TableOf.{rows_in};
 ghost use Rattle.print_walks.specs.TableText.{row_line, table_text};
 
@@ -12,7 +12,7 @@ use base_devices::Output;
 use base_notes::Mark;
 use bound_scan::Worst;
 use print_hops::Line;
-use print_sheet::Sheet;
+use print_lines::Sheet;
 
 /// Puts the lines of entries.
 fn put_rows<O: Output>(sheet: &mut Sheet, writer: &mut O, rows: &[Worst], marks: &[Mark])

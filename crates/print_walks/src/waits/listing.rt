@@ -3,7 +3,7 @@
 ghost use Rattle.std.specs.Prelude.{flat_map};
 ghost use Rattle.base_notes.specs.Entries.{entry_in};
 ghost use Rattle.bound_scan.specs.AnalysisOf.{angle_of, bound_of, visits_of};
-ghost use Rattle.print_sheet.specs.Stands.{Passes};
+ghost use Rattle.print_lines.specs.Stands.{Passes};
 ghost use Rattle.print_hops.specs.WaitsText.{waits_text};
 ghost use Rattle.print_walks.specs.WaitsOf.{AreWaits, firsts_of, row_text};
 
@@ -13,8 +13,7 @@ use base_devices::Output;
 use base_notes::Times;
 use bound_scan::Analysis;
 use print_hops::{TimedHop, put_kind, put_total};
-use print_lines::put_bound;
-use print_sheet::Sheet;
+use print_lines::{Sheet, put_bound};
 
 /// Puts the lines of rows.
 fn put_rows<O: Output>(sheet: &mut Sheet, writer: &mut O, rows: &[Wait], times: &Times, angle: u8)

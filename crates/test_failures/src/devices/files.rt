@@ -5,7 +5,7 @@ use crate::devices::running::{AMPLE, Ran, run_over};
 use crate::devices::subjects::{WORDS, shelf_of};
 use crate::shelf::Shelf;
 use crate::texts::{NOTES, TIMES, TWO_WORDS};
-use program_run::Status;
+use drum_tool::Status;
 use std::alloc::Global;
 use std::io::ErrorKind;
 use std::process::Abort;

@@ -4,7 +4,7 @@ use crate::devices::Tap;
 use crate::devices::running::{AMPLE, Ran, run_over};
 use crate::shelf::Shelf;
 use crate::texts::{NOTES, TIMES, TWO_WORDS};
-use program_run::Status;
+use drum_tool::Status;
 use std::alloc::{AllocError, Global};
 use std::io::ErrorKind;
 use std::test::Fail;

@@ -6,8 +6,8 @@ use crate::devices::running::{Ran, run_over};
 use crate::devices::subjects::{SUBJECTS, shelf_of};
 use crate::page::Page;
 use crate::shelf::Shelf;
-use base_devices::{Output, Writing};
-use program_run::Status;
+use drum_core::{Output, Writing};
+use drum_tool::Status;
 use std::process::Abort;
 use std::test::Fail;
 

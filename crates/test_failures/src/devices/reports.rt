@@ -3,11 +3,10 @@
 use crate::devices::subjects::REPORT;
 use crate::page::Page;
 use crate::texts::{NOTES, TIMES, TWO_WORDS};
-use base_devices::{Output, Reading, Writing};
-use bound_scan::{Analysis, analyse};
-use program_run::{Notes, WriteFault, report};
-use read_decks::{Deck, read_deck};
-use read_toml::{read_notes, read_times};
+use drum_bound::{Analysis, analyse};
+use drum_core::{Deck, Output, Reading, Writing, read_deck};
+use drum_times::{Notes, read_notes, read_times};
+use drum_tool::{WriteFault, report};
 use std::process::Abort;
 use std::test::Fail;
 

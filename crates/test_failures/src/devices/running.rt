@@ -5,8 +5,8 @@ ghost use Rattle.std.specs.Prelude.{◌^◌, ◌≤◌};
 use crate::devices::Tap;
 use crate::page::Page;
 use crate::shelf::Shelf;
-use base_devices::{Input, Reading, Writing};
-use program_run::{Status, run};
+use drum_core::{Input, Reading, Writing};
+use drum_tool::{Status, run};
 use std::alloc::Global;
 
 /// Room for each text that is written, and all of it at once.

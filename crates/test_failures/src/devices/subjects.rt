@@ -2,7 +2,7 @@
 
 use crate::devices::Tap;
 use crate::texts::{NOTES, STOPS, STORES, TIMES, TWO_WORDS};
-use program_run::Status;
+use drum_tool::Status;
 
 /// A command, its files but for the timing table, how it ends, and what goes out: a result, or a
 /// complaint.

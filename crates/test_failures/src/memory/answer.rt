@@ -2,11 +2,11 @@
 
 use crate::page::Page;
 use base_devices::WholeError;
-use base_notes::NoteFault;
-use bound_scan::Refusal;
-use machine_emulator::Memory;
-use program_run::{Fault, InputFault, Status};
-use read_decks::DeckFault;
+use drum_bound::Refusal;
+use drum_core::DeckFault;
+use drum_machine::Memory;
+use drum_times::NoteFault;
+use drum_tool::{Fault, InputFault, Status};
 use std::alloc::AllocError;
 use std::fmt::Debug;
 

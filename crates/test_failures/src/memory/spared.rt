@@ -7,11 +7,11 @@
 use crate::memory::subjects::{SUBJECTS, Subject};
 use crate::memory::window::{close_spared, open};
 use crate::page::Page;
-use base_devices::Writing;
-use bound_scan::{Analysis, analyse};
-use print_sheet::Sheet;
+use drum_bound::{Analysis, analyse};
+use drum_core::Writing;
+use drum_tool::{Documents, report};
+use print_lines::Sheet;
 use print_walks::put_walk;
-use program_run::{Documents, report};
 use std::process::Abort;
 use std::test::Fail;
 

@@ -3,10 +3,9 @@
 use crate::texts::{
     BACK, BOTH_ROADS, BRANCH_BACK, LOOPS, NESTED, NOTES, ROADS, TIMES, TWO_ROADS, TWO_WORDS,
 };
-use base_devices::Reading;
-use program_run::Documents;
-use read_decks::read_deck;
-use read_toml::{read_notes, read_times};
+use drum_core::{Reading, read_deck};
+use drum_times::{read_notes, read_times};
+use drum_tool::Documents;
 use std::alloc::{AllocError, Global};
 use std::test::Fail;
 

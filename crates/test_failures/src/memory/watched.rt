@@ -9,14 +9,13 @@ use crate::memory::window::Round;
 use crate::texts::{
     BRANCH_BACK, LONG_MARKS, NOTES, ROADS, STORES, TIMES, TWO_CALLS, TWO_ROADS, TWO_WORDS,
 };
-use base_devices::{Reading, read_whole};
-use base_words::Word;
-use bound_scan::{Refusal, accept, analyse, bound, flow};
-use ceiling_checked::reached;
-use machine_emulator::{Machine, Setup};
-use program_run::{Documents, Fault, Findings, Lacking, Verdict, read_inputs, replay};
-use read_decks::read_deck;
-use read_toml::{long_notes_faults, read_long_notes, read_notes, read_times};
+use base_devices::read_whole;
+use drum_bound::{Refusal, accept, analyse, bound, flow, reached};
+use drum_core::{Reading, Word, read_deck};
+use drum_machine::{Machine, Setup};
+use drum_times::{read_long_notes, read_notes, read_times};
+use drum_tool::{Documents, Fault, Findings, Lacking, Verdict, read_inputs, replay};
+use read_toml::long_notes_faults;
 use std::alloc::Global;
 use std::process::Abort;
 use std::test::Fail;

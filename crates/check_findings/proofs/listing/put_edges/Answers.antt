@@ -1,4 +1,4 @@
-use Rattle.print_sheet.proofs.Passing.{◌⊳◌}
+use Rattle.print_lines.proofs.Passing.{◌⊳◌}
 use Rattle.check_findings.proofs.listing.put_edges.Goals as goal
 
 pub returns : goal.returns

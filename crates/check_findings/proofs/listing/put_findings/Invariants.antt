@@ -1,5 +1,5 @@
 use Rattle.std.proofs.Common.{flat_map, map, take}
-use Rattle.print_sheet.specs.Stands.{Passes}
+use Rattle.print_lines.specs.Stands.{Passes}
 use Rattle.check_findings.specs.FindingOf.{seen}
 use Rattle.check_findings.specs.FindingsText.{finding_text}
 use Rattle.check_findings.proofs.listing.put_findings.Given as goal

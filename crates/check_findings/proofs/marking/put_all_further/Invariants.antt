@@ -1,5 +1,5 @@
 use Rattle.std.proofs.Common.{flat_map, map, take}
-use Rattle.print_sheet.specs.Stands.{Passes}
+use Rattle.print_lines.specs.Stands.{Passes}
 use Rattle.check_findings.specs.FindingOf.{seen}
 use Rattle.check_findings.specs.Lacking.{further_text}
 use Rattle.check_findings.proofs.marking.put_all_further.Given as goal

@@ -1,6 +1,6 @@
 use Rattle.std.proofs.Common.{◌+◌, take, sym, arith}
 use Rattle.std.proofs.lemmas.List.Folds.{flat_map-map}
-use Rattle.print_sheet.proofs.Passing.{passes_as, passes_more}
+use Rattle.print_lines.proofs.Passing.{passes_as, passes_more}
 use Rattle.check_findings.specs.declared.lacking.Lack.{Lack}
 use Rattle.check_findings.specs.Lacking.{list_text}
 use Rattle.check_findings.specs.LackingOf.{pair_of}

@@ -1,5 +1,5 @@
 use Rattle.std.proofs.Common.{flat_map, map, take}
-use Rattle.print_sheet.specs.Stands.{Passes}
+use Rattle.print_lines.specs.Stands.{Passes}
 use Rattle.check_findings.specs.Lacking.{list_text}
 use Rattle.check_findings.specs.LackingOf.{pair_of}
 use Rattle.check_findings.proofs.pasting.put_lists.Given as goal

@@ -1,4 +1,4 @@
-use Rattle.print_sheet.proofs.Passing.{◌⊳◌}
+use Rattle.print_lines.proofs.Passing.{◌⊳◌}
 use Rattle.check_findings.proofs.pasting.put_pattern.Goals as goal
 
 pub returns : goal.returns

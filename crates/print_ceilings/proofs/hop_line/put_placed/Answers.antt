@@ -2,7 +2,7 @@ use Rattle.std.proofs.Common.{◌≡◌, List, ℕ, ◌++◌, append_assoc, ap, 
 use Rattle.std.specs.Prelude.{codes, decimal}
 use Rattle.base_notes.specs.Entries.{entry_in}
 use Rattle.flow_walks.specs.Pieces.{seen_placed}
-use Rattle.print_sheet.proofs.Passing.{◌⊳◌, passes_as}
+use Rattle.print_lines.proofs.Passing.{◌⊳◌, passes_as}
 use Rattle.print_hops.specs.declared.moments.Moments.{Moments}
 use Rattle.print_hops.specs.Moments.{later, moments_of}
 use Rattle.print_hops.specs.MomentsText.{moments_text}

@@ -2,8 +2,8 @@
 use Rattle.std.proofs.Common.{ℕ, ap, ◌∙◌}
 use Rattle.std.specs.Prelude.{slice_index}
 use Rattle.ceiling_checked.specs.CeilingOf.{prices_of}
-use Rattle.print_sheet.proofs.Lines.{numbered_last, numbered_more}
-use Rattle.print_sheet.proofs.Passing.{passes_as}
+use Rattle.print_lines.proofs.Lines.{numbered_last, numbered_more}
+use Rattle.print_lines.proofs.Passing.{passes_as}
 use Rattle.print_ceilings.specs.CeilingText.{price_line, price_line_at}
 use Rattle.print_ceilings.proofs.prices.put_prices.Goals as goal
 

@@ -1,6 +1,6 @@
 use Rattle.std.proofs.Common.{flat_map, take}
 use Rattle.std.specs.List.{enumerate_from}
-use Rattle.print_sheet.specs.Stands.{Passes}
+use Rattle.print_lines.specs.Stands.{Passes}
 use Rattle.print_ceilings.specs.CeilingText.{price_line_at}
 use Rattle.print_ceilings.proofs.prices.put_prices.Given as goal
 

@@ -1,6 +1,6 @@
 use Rattle.std.proofs.Common.{ℕ, List, length, ap, ◌∙◌, None, Option}
 use Rattle.std.proofs.lemmas.List.{length-replicate}
-use Rattle.print_sheet.proofs.Passing.{passes_as}
+use Rattle.print_lines.proofs.Passing.{passes_as}
 use Rattle.flow_walks.specs.declared.piece.Piece.{Piece}
 use Rattle.ceiling_rounds.specs.InRounds.{pieces_of}
 use Rattle.print_ceilings.specs.RoundsText.{joined, PartsSoFar}

@@ -2,7 +2,7 @@ use Rattle.std.proofs.Common.{ℕ, ap, ◌∙◌}
 use Rattle.base_notes.specs.Marks.{mark_on}
 use Rattle.print_graphs.specs.GraphOf.{edges_in}
 use Rattle.print_graphs.specs.GraphText.{end_text, is_loop, mark_label}
-use Rattle.print_sheet.proofs.Passing.{◌⊳◌, passes_as}
+use Rattle.print_lines.proofs.Passing.{◌⊳◌, passes_as}
 use Rattle.print_graphs.proofs.arrows.put_edge.Goals as goal
 
 pub returns : goal.returns

@@ -1,6 +1,6 @@
 use Rattle.std.proofs.Common.{flat_map, take}
 use Rattle.flow_graph.specs.Found.{places_of}
-use Rattle.print_sheet.specs.Stands.{Passes}
+use Rattle.print_lines.specs.Stands.{Passes}
 use Rattle.print_graphs.specs.GraphOf.{edges_in, node_of}
 use Rattle.print_graphs.specs.GraphText.{edge_text}
 use Rattle.print_graphs.proofs.arrows.put_edges.Given as goal

@@ -1,4 +1,4 @@
-use Rattle.print_sheet.proofs.Passing.{◌⊳◌}
+use Rattle.print_lines.proofs.Passing.{◌⊳◌}
 use Rattle.print_graphs.proofs.arrows.put_word.Goals as goal
 
 pub returns : goal.returns

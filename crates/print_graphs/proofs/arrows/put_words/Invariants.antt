@@ -1,6 +1,6 @@
 use Rattle.std.proofs.Common.{flat_map, take}
 use Rattle.flow_graph.specs.Found.{places_of}
-use Rattle.print_sheet.specs.Stands.{Passes}
+use Rattle.print_lines.specs.Stands.{Passes}
 use Rattle.print_graphs.specs.GraphText.{written_text}
 use Rattle.print_graphs.proofs.arrows.put_words.Given as goal
 

@@ -1,5 +1,5 @@
 use Rattle.std.proofs.Common.{flat_map, take}
-use Rattle.print_sheet.specs.Stands.{Passes}
+use Rattle.print_lines.specs.Stands.{Passes}
 use Rattle.print_graphs.specs.GraphText.{operation_text}
 use Rattle.print_graphs.proofs.boxes.put_operations.Given as goal
 

@@ -1,5 +1,5 @@
 use Rattle.std.proofs.Common.{flat_map, take}
-use Rattle.print_sheet.specs.Stands.{Passes}
+use Rattle.print_lines.specs.Stands.{Passes}
 use Rattle.print_graphs.specs.GraphOf.{loops_in, nodes_in}
 use Rattle.print_graphs.specs.GraphText.{node_text}
 use Rattle.print_graphs.proofs.drawing.put_nodes.Given as goal

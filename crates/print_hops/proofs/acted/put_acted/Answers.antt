@@ -2,7 +2,7 @@ use Rattle.std.proofs.Common.{ℕ, ◌+◌, ◌++◌, Option, Some, ap, sym, ◌
 use Rattle.std.specs.Prelude.{codes}
 use Rattle.base_words.specs.declared.op.Op.{Op}
 use Rattle.machine_steps.specs.Effect.{band}
-use Rattle.print_sheet.proofs.Passing.{passes_as}
+use Rattle.print_lines.proofs.Passing.{passes_as}
 use Rattle.print_hops.specs.ContentsText.{acted_text, words_text}
 use Rattle.print_hops.proofs.acted.put_acted.Goals as goal
 

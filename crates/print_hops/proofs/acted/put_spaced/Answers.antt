@@ -2,7 +2,7 @@ use Rattle.std.proofs.Common.{◌∷◌, ap, flat_map}
 use Rattle.std.proofs.lemmas.List.{take_all}
 use Rattle.base_words.specs.declared.word.Word.{Word}
 use Rattle.base_words.specs.Word.{spelling}
-use Rattle.print_sheet.proofs.Passing.{◌⊳◌, passes_as, passes_more}
+use Rattle.print_lines.proofs.Passing.{◌⊳◌, passes_as, passes_more}
 use Rattle.print_hops.proofs.acted.put_spaced.Goals as goal
 
 pub loop-word-preserved : goal.loop-word-preserved

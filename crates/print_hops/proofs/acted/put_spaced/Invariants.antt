@@ -1,7 +1,7 @@
 use Rattle.std.proofs.Common.{◌∷◌, flat_map, take}
 use Rattle.base_words.specs.declared.word.Word.{Word}
 use Rattle.base_words.specs.Word.{spelling}
-use Rattle.print_sheet.specs.Stands.{Passes}
+use Rattle.print_lines.specs.Stands.{Passes}
 use Rattle.print_hops.proofs.acted.put_spaced.Given as goal
 
 -- the words so far were put

@@ -1,4 +1,4 @@
-use Rattle.print_sheet.proofs.Passing.{◌⊳◌}
+use Rattle.print_lines.proofs.Passing.{◌⊳◌}
 use Rattle.print_hops.proofs.hop_text.put_way.Goals as goal
 
 pub returns-in-To : goal.returns-in-To

@@ -1,7 +1,7 @@
 use Rattle.std.proofs.Common.{ap, ◌∙◌, Option, ℕ}
 use Rattle.base_words.specs.Op.{op_of}
 use Rattle.base_notes.specs.Entries.{entry_in}
-use Rattle.print_sheet.proofs.Passing.{◌⊳◌, passes_as}
+use Rattle.print_lines.proofs.Passing.{◌⊳◌, passes_as}
 use Rattle.print_hops.specs.declared.moments.Moments.{Moments}
 use Rattle.print_hops.specs.Pieces.{angles_text}
 use Rattle.print_hops.specs.TimedHop.{seen_timed}

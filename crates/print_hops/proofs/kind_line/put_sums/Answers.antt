@@ -1,6 +1,6 @@
 use Rattle.std.proofs.Common.{ap}
 use Rattle.std.specs.Prelude.{decimal}
-use Rattle.print_sheet.proofs.Passing.{◌⊳◌, passes_as}
+use Rattle.print_lines.proofs.Passing.{◌⊳◌, passes_as}
 use Rattle.print_hops.proofs.kind_line.put_sums.Goals as goal
 
 pub returns : goal.returns

@@ -1,4 +1,4 @@
-use Rattle.print_sheet.proofs.Passing.{◌⊳◌}
+use Rattle.print_lines.proofs.Passing.{◌⊳◌}
 use Rattle.print_hops.proofs.moments_text.put_all_moments.Goals as goal
 
 pub returns : goal.returns

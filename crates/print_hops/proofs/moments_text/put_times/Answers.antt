@@ -1,4 +1,4 @@
-use Rattle.print_sheet.proofs.Passing.{passes_as}
+use Rattle.print_lines.proofs.Passing.{passes_as}
 use Rattle.print_hops.proofs.Lines.{times_told}
 use Rattle.print_hops.proofs.moments_text.put_times.Goals as goal
 

@@ -1,5 +1,5 @@
 use Rattle.std.proofs.Common.{◌+◌, ℕ, ap}
-use Rattle.print_sheet.proofs.Passing.{passes_as}
+use Rattle.print_lines.proofs.Passing.{passes_as}
 use Rattle.print_hops.proofs.Lines.{later_told}
 use Rattle.print_hops.proofs.moments_text.put_times_later.Goals as goal
 

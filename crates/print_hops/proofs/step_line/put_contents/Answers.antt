@@ -2,7 +2,7 @@ use Rattle.std.proofs.Common.{List, ap}
 use Rattle.base_words.specs.declared.word.Word.{Word}
 use Rattle.base_words.specs.Op.{op_of}
 use Rattle.machine_steps.specs.WaysLeft.{seen_way}
-use Rattle.print_sheet.proofs.Passing.{◌⊳◌, passes_as}
+use Rattle.print_lines.proofs.Passing.{◌⊳◌, passes_as}
 use Rattle.print_hops.specs.ContentsText.{acted_text, acting}
 use Rattle.print_hops.proofs.step_line.put_contents.Goals as goal
 

@@ -1,4 +1,4 @@
-use Rattle.print_sheet.proofs.Passing.{◌⊳◌, passes_as}
+use Rattle.print_lines.proofs.Passing.{◌⊳◌, passes_as}
 use Rattle.print_hops.proofs.step_line.put_fetch.Goals as goal
 
 pub returns : goal.returns

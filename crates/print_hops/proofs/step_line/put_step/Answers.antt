@@ -2,7 +2,7 @@
 -- the other. Both are those of the stride that the step is of.
 use Rattle.base_notes.specs.Entries.{entry_in}
 use Rattle.machine_emulator.specs.Machine.{held_by}
-use Rattle.print_sheet.proofs.Passing.{◌⊳◌, passes_as}
+use Rattle.print_lines.proofs.Passing.{◌⊳◌, passes_as}
 use Rattle.print_hops.specs.TimedHop.{seen_timed}
 use Rattle.print_hops.proofs.Lines.{stride_told}
 use Rattle.print_hops.proofs.step_line.put_step.Goals as goal

@@ -6,7 +6,7 @@ use Rattle.base_notes.specs.declared.notes.mark.Mark.{Mark}
 use Rattle.flow_walks.specs.Visited.{Visited, seen_visit}
 use Rattle.bound_scan.specs.AnalysisOf.{bound_of, visits_of}
 use Rattle.print_lines.specs.BoundText.{bound_text}
-use Rattle.print_sheet.proofs.Passing.{◌⊳◌, passes_as}
+use Rattle.print_lines.proofs.Passing.{◌⊳◌, passes_as}
 use Rattle.print_walks.specs.Report.{mark_line, time_in}
 use Rattle.print_walks.specs.TalliesOf.{AreTallies, told_of_others}
 use Rattle.print_walks.proofs.Short.{report_short}

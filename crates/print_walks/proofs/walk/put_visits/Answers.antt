@@ -3,7 +3,7 @@ use Rattle.std.proofs.lemmas.List.{take_all}
 use Rattle.base_notes.specs.Entries.{entry_in}
 use Rattle.flow_walks.specs.declared.visit.Visit.{Visit}
 use Rattle.flow_walks.specs.Visited.{seen_visit}
-use Rattle.print_sheet.proofs.Passing.{passes_as, passes_more}
+use Rattle.print_lines.proofs.Passing.{passes_as, passes_more}
 use Rattle.print_hops.specs.WalkText.{visit_line}
 use Rattle.print_walks.proofs.walk.put_visits.Goals as goal
 

@@ -2,7 +2,7 @@ use Rattle.std.proofs.Common.{flat_map, take}
 use Rattle.base_notes.specs.Entries.{entry_in}
 use Rattle.flow_walks.specs.declared.visit.Visit.{Visit}
 use Rattle.flow_walks.specs.Visited.{seen_visit}
-use Rattle.print_sheet.specs.Stands.{Passes}
+use Rattle.print_lines.specs.Stands.{Passes}
 use Rattle.print_hops.specs.WalkText.{visit_line}
 use Rattle.print_walks.proofs.walk.put_visits.Given as goal
 

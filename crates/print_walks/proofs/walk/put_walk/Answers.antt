@@ -7,7 +7,7 @@ use Rattle.flow_walks.specs.Visited.{seen_visit}
 use Rattle.bound_scan.specs.declared.analysis.Analysis.{Analysis}
 use Rattle.bound_scan.specs.AnalysisOf.{angle_of, visits_of}
 use Rattle.print_lines.specs.BoundText.{bound_text}
-use Rattle.print_sheet.proofs.Passing.{◌⊳◌, passes_as}
+use Rattle.print_lines.proofs.Passing.{◌⊳◌, passes_as}
 use Rattle.print_hops.specs.WalkText.{visit_line}
 use Rattle.print_hops.proofs.Lines.{flat_map_map}
 use Rattle.print_walks.proofs.walk.put_walk.Goals as goal

@@ -1,4 +1,4 @@
-use Rattle.print_sheet.proofs.Passing.{◌⊳◌, passes_as}
+use Rattle.print_lines.proofs.Passing.{◌⊳◌, passes_as}
 use Rattle.program_replay.proofs.LineTexts.{lists_seen, marks_seen}
 use Rattle.program_replay.proofs.coverage_lines.put_coverage.Goals as goal
 

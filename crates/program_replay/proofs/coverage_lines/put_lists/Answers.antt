@@ -1,9 +1,9 @@
 use Rattle.std.proofs.Common.{ap}
 use Rattle.base_notes.specs.Listed.{listed}
-use Rattle.print_sheet.proofs.Passing.{passes_as}
+use Rattle.print_lines.proofs.Passing.{passes_as}
 use Rattle.program_replay.specs.Coverage.{list_line}
 use Rattle.program_replay.specs.CoverageOf.{list_line_at}
-use Rattle.print_sheet.proofs.Lines.{numbered_last, numbered_more}
+use Rattle.print_lines.proofs.Lines.{numbered_last, numbered_more}
 use Rattle.program_replay.proofs.coverage_lines.put_lists.Goals as goal
 
 pub loop-place-preserved : goal.loop-place-preserved

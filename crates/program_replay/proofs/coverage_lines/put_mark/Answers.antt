@@ -1,4 +1,4 @@
-use Rattle.print_sheet.proofs.Passing.{◌⊳◌}
+use Rattle.print_lines.proofs.Passing.{◌⊳◌}
 use Rattle.program_replay.proofs.coverage_lines.put_mark.Goals as goal
 
 pub returns : goal.returns

@@ -1,8 +1,8 @@
 use Rattle.std.proofs.Common.{ap}
-use Rattle.print_sheet.proofs.Passing.{passes_as}
+use Rattle.print_lines.proofs.Passing.{passes_as}
 use Rattle.program_replay.specs.Coverage.{mark_line, mark_line_at}
 use Rattle.program_replay.specs.CoverageOf.{passed_at}
-use Rattle.print_sheet.proofs.Lines.{numbered_last, numbered_more}
+use Rattle.print_lines.proofs.Lines.{numbered_last, numbered_more}
 use Rattle.program_replay.proofs.coverage_lines.put_marks.Goals as goal
 
 pub loop-place-preserved : goal.loop-place-preserved

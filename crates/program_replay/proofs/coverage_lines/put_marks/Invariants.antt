@@ -1,6 +1,6 @@
 use Rattle.std.proofs.Common.{flat_map, take}
 use Rattle.std.specs.List.{enumerate_from}
-use Rattle.print_sheet.specs.Stands.{Passes}
+use Rattle.print_lines.specs.Stands.{Passes}
 use Rattle.program_replay.specs.Coverage.{mark_line_at}
 use Rattle.program_replay.specs.CoverageOf.{passed_at}
 use Rattle.program_replay.proofs.coverage_lines.put_marks.Given as goal

@@ -6,7 +6,7 @@ use Rattle.std.specs.Prelude.{option_map}
 use Rattle.read_decks.specs.InDeck.{loads_in}
 use Rattle.machine_emulator.specs.Feed.{cards_left}
 use Rattle.machine_emulator.specs.Machine.{state_in}
-use Rattle.machine_monitor.specs.Monitor.{answer_of}
+use Rattle.machine_emulator.specs.Monitor.{answer_of}
 use Rattle.flow_graph.specs.SettingOf.{setting}
 use Rattle.program_replay.specs.Begun.{left_before}
 use Rattle.program_replay.specs.declared.following.Following.{Following}

@@ -11,12 +11,12 @@ use Rattle.machine_steps.specs.declared.verdict.Verdict.{Verdict}
 use Rattle.machine_emulator.specs.Feed.{cards_left}
 use Rattle.machine_emulator.specs.Machine.{IsToldOf, held_by}
 use Rattle.machine_emulator.specs.declared.step.Step.{Step}
-use Rattle.machine_monitor.proofs.Watching.{kept_within, zeros_within}
+use Rattle.machine_emulator.proofs.Watching.{kept_within, zeros_within}
 use Rattle.flow_graph.specs.SettingOf.{setting}
 use Rattle.flow_graph.specs.Walk.{Setting}
-use Rattle.print_sheet.specs.declared.sheet.Sheet.{Sheet}
-use Rattle.print_sheet.specs.Stands.{Passes}
-use Rattle.print_sheet.proofs.Passing.{◌⊳◌, passes_as}
+use Rattle.print_lines.specs.declared.sheet.Sheet.{Sheet}
+use Rattle.print_lines.specs.Stands.{Passes}
+use Rattle.print_lines.proofs.Passing.{◌⊳◌, passes_as}
 use Rattle.print_hops.specs.StepOf.{IsStepOf}
 use Rattle.print_hops.specs.TraceText.{stride_line, stride_lines}
 use Rattle.program_replay.specs.Following.{IsFollowed, IsFollowing, state_of, stride_of, used_so_far, waits_of}

@@ -2,7 +2,7 @@ use Rattle.std.proofs.Common.{◌+◌, ◌-◌, List}
 use Rattle.base_notes.specs.Entries.{entry_in}
 use Rattle.machine_steps.specs.Run.{Stride}
 use Rattle.flow_graph.specs.SettingOf.{setting}
-use Rattle.print_sheet.specs.Stands.{Passes}
+use Rattle.print_lines.specs.Stands.{Passes}
 use Rattle.print_hops.specs.TraceText.{stride_lines}
 use Rattle.program_replay.specs.CoverageOf.{HasSeen}
 use Rattle.program_replay.specs.Following.{IsFollowing, state_of, used_so_far, waits_of}

@@ -1,5 +1,5 @@
 use Rattle.std.proofs.Common.{[]}
-use Rattle.print_sheet.proofs.Passing.{passes_none}
+use Rattle.print_lines.proofs.Passing.{passes_none}
 use Rattle.read_documents.specs.Documents.{setting_of}
 use Rattle.program_replay.proofs.Traced.{either_map, traced_before, traced_followed}
 use Rattle.program_replay.proofs.tracing.put_trace.Goals as goal

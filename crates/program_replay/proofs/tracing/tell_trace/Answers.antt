@@ -7,7 +7,7 @@ use Rattle.print_lines.specs.Output.{GetsResult}
 use Rattle.print_lines.specs.VerdictText.{verdict_text}
 use Rattle.print_hops.specs.TraceText.{stride_lines}
 use Rattle.program_replay.specs.Coverage.{coverage_lines}
-use Rattle.print_sheet.proofs.Passing.{◌⊳◌, passes_as, prefix_of_lost}
+use Rattle.print_lines.proofs.Passing.{◌⊳◌, passes_as, prefix_of_lost}
 use Rattle.read_documents.specs.Documents.{setting_of}
 use Rattle.program_replay.specs.RunReply.{cut_reply, trace_reply}
 use Rattle.program_replay.proofs.tracing.tell_trace.Goals as goal

@@ -1,5 +1,5 @@
 use Rattle.std.proofs.Common.{ap}
-use Rattle.print_sheet.proofs.Passing.{passes_as}
+use Rattle.print_lines.proofs.Passing.{passes_as}
 use Rattle.check_findings.specs.Lacking.{check_text}
 use Rattle.check_deck.proofs.findings.Findings.put.Goals as goal
 

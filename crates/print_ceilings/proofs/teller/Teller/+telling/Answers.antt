@@ -8,7 +8,7 @@ use Rattle.print_ceilings.specs.ProgressOf.{told_of, MayTell}
 use Rattle.print_ceilings.specs.RoundsText.{at_time, both, end_rounds_line, first_place, last_place}
 use Rattle.print_ceilings.specs.RoundsText.{rounds_line, Telling}
 use Rattle.print_ceilings.specs.TellerOf.{named_told, piece_told, pieces_in, row_told}
-use Rattle.print_sheet.proofs.Passing.{passes_as}
+use Rattle.print_lines.proofs.Passing.{passes_as}
 use Rattle.print_ceilings.proofs.Tellings.{named_beyond, named_part, named_plain, row_is_told, rounds_each, rounds_fit}
 use Rattle.print_ceilings.proofs.Tellings.{rounds_sooner, rounds_split, row_more, row_none, row_sooner}
 use Rattle.print_ceilings.proofs.Passing.{begin_rounds, end_rounds}

@@ -1,6 +1,6 @@
 use Rattle.std.proofs.Common.{ℕ, flat_map, ap}
 use Rattle.base_notes.specs.Entries.{entry_in}
-use Rattle.print_sheet.proofs.Passing.{◌⊳◌, passes_as}
+use Rattle.print_lines.proofs.Passing.{◌⊳◌, passes_as}
 use Rattle.print_hops.specs.KindsOf.{waited_line}
 use Rattle.print_ceilings.specs.RoundsWaitsOf.{row_text}
 use Rattle.print_ceilings.proofs.waits.listing.put_rounds_waits.Goals as goal

@@ -1,5 +1,5 @@
 use Rattle.base_notes.specs.Entries.{entry_in}
-use Rattle.print_sheet.proofs.Passing.{passes_more}
+use Rattle.print_lines.proofs.Passing.{passes_more}
 use Rattle.print_ceilings.specs.RoundsWaitsOf.{row_text}
 use Rattle.print_ceilings.proofs.waits.listing.put_rows.Goals as goal
 

@@ -1,6 +1,6 @@
 use Rattle.std.proofs.Common.{ap, ◌∙◌}
 use Rattle.base_notes.specs.Entries.{entry_in}
-use Rattle.print_sheet.proofs.Passing.{◌⊳◌, passes_as}
+use Rattle.print_lines.proofs.Passing.{◌⊳◌, passes_as}
 use Rattle.print_hops.specs.TimedHop.{seen_timed}
 use Rattle.print_hops.specs.WalkText.{visit_line}
 use Rattle.print_hops.proofs.Lines.{visit_told}

@@ -1,4 +1,4 @@
-use Rattle.print_sheet.proofs.Passing.{◌⊳◌}
+use Rattle.print_lines.proofs.Passing.{◌⊳◌}
 use Rattle.print_lines.proofs.print.note_fault.put_two_marks.Goals as goal
 
 pub returns : goal.returns

@@ -1,6 +1,6 @@
 use Rattle.std.proofs.Common.{ap, flat_map}
 use Rattle.print_lines.specs.FaultText.{next_location}
-use Rattle.print_sheet.proofs.Passing.{◌⊳◌, passes_as}
+use Rattle.print_lines.proofs.Passing.{◌⊳◌, passes_as}
 use Rattle.print_lines.proofs.print.refusal_line.put_cycle.Goals as goal
 
 pub returns : goal.returns

@@ -1,5 +1,5 @@
 use Rattle.std.proofs.Common.{flat_map, take}
-use Rattle.print_sheet.specs.Stands.{Passes}
+use Rattle.print_lines.specs.Stands.{Passes}
 use Rattle.print_lines.specs.FaultText.{next_location}
 use Rattle.print_lines.proofs.print.refusal_line.put_locations.Given as goal
 

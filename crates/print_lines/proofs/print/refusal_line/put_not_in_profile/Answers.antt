@@ -1,4 +1,4 @@
-use Rattle.print_sheet.proofs.Passing.{◌⊳◌, passes_as}
+use Rattle.print_lines.proofs.Passing.{◌⊳◌, passes_as}
 use Rattle.print_lines.proofs.print.refusal_line.put_not_in_profile.Goals as goal
 
 pub returns : goal.returns

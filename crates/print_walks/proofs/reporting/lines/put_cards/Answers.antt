@@ -5,7 +5,7 @@ use Rattle.std.proofs.lemmas.Option.{get_or_from_slice_get}
 use Rattle.read_decks.specs.declared.deck.Deck.{Deck}
 use Rattle.read_decks.specs.InDeck.{cards_in}
 use Rattle.flow_walks.specs.Visited.{Visited}
-use Rattle.print_sheet.proofs.Passing.{passes_as, passes_more}
+use Rattle.print_lines.proofs.Passing.{passes_as, passes_more}
 use Rattle.print_walks.specs.declared.reporting.tally.Tally.{Tally}
 use Rattle.print_walks.specs.Report.{card_line}
 use Rattle.print_walks.specs.TalliesOf.{AreByLine, told_of_card}

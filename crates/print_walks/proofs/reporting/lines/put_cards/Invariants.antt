@@ -1,7 +1,7 @@
 use Rattle.std.proofs.Common.{List, flat_map, take}
 use Rattle.read_decks.specs.InDeck.{cards_in}
 use Rattle.flow_walks.specs.Visited.{Visited}
-use Rattle.print_sheet.specs.Stands.{Passes}
+use Rattle.print_lines.specs.Stands.{Passes}
 use Rattle.print_walks.specs.Report.{card_line}
 use Rattle.print_walks.specs.TalliesOf.{AreByLine}
 use Rattle.print_walks.proofs.reporting.lines.put_cards.Given as goal

@@ -1,5 +1,5 @@
 use Rattle.std.proofs.Common.{append_assoc, arith}
-use Rattle.print_sheet.proofs.Passing.{◌⊳◌, passes_as}
+use Rattle.print_lines.proofs.Passing.{◌⊳◌, passes_as}
 use Rattle.print_walks.proofs.Short.{mark_short}
 use Rattle.print_walks.proofs.reporting.lines.put_mark.Goals as goal
 

@@ -6,7 +6,7 @@ use Rattle.std.specs.Prelude.{slice_index}
 use Rattle.base_devices.proofs.Bytes.{pieces_more}
 use Rattle.base_notes.specs.declared.notes.mark.Mark.{Mark}
 use Rattle.flow_walks.specs.Visited.{Visited}
-use Rattle.print_sheet.proofs.Passing.{passes_as, passes_more}
+use Rattle.print_lines.proofs.Passing.{passes_as, passes_more}
 use Rattle.print_walks.specs.Report.{mark_line}
 use Rattle.print_walks.specs.TalliesOf.{ArePasses, told_of_mark}
 use Rattle.print_walks.proofs.reporting.lines.put_marks.Goals as goal

@@ -1,6 +1,6 @@
 use Rattle.std.proofs.Common.{◌*◌, ◌≤◌, List, flat_map, length, take}
 use Rattle.flow_walks.specs.Visited.{Visited}
-use Rattle.print_sheet.specs.Stands.{Passes}
+use Rattle.print_lines.specs.Stands.{Passes}
 use Rattle.print_walks.specs.Report.{mark_line}
 use Rattle.print_walks.specs.TalliesOf.{ArePasses}
 use Rattle.print_walks.proofs.reporting.lines.put_marks.Given as goal

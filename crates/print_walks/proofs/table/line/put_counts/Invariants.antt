@@ -1,5 +1,5 @@
 use Rattle.std.proofs.Common.{flat_map, take}
-use Rattle.print_sheet.specs.Stands.{Passes}
+use Rattle.print_lines.specs.Stands.{Passes}
 use Rattle.print_walks.specs.TableText.{count_text}
 use Rattle.print_walks.proofs.table.line.put_counts.Given as goal
 

@@ -3,7 +3,7 @@ use Rattle.std.proofs.lemmas.List.{take_all}
 use Rattle.base_notes.specs.declared.notes.mark.Mark.{Mark}
 use Rattle.bound_scan.specs.declared.worst.Worst.{Worst}
 use Rattle.bound_scan.specs.RowOf.{row_in}
-use Rattle.print_sheet.proofs.Passing.{passes_as, passes_more}
+use Rattle.print_lines.proofs.Passing.{passes_as, passes_more}
 use Rattle.print_walks.specs.TableText.{row_line}
 use Rattle.print_walks.proofs.table.listing.put_rows.Goals as goal
 

@@ -1,7 +1,7 @@
 use Rattle.std.proofs.Common.{flat_map, take}
 use Rattle.bound_scan.specs.declared.worst.Worst.{Worst}
 use Rattle.bound_scan.specs.RowOf.{row_in}
-use Rattle.print_sheet.specs.Stands.{Passes}
+use Rattle.print_lines.specs.Stands.{Passes}
 use Rattle.print_walks.specs.TableText.{row_line}
 use Rattle.print_walks.proofs.table.listing.put_rows.Given as goal
 

@@ -1,7 +1,7 @@
 use Rattle.std.proofs.Common.{ap, ◌∙◌, flat_map}
 use Rattle.bound_scan.specs.declared.worst.Worst.{Worst}
 use Rattle.bound_scan.specs.RowOf.{row_in}
-use Rattle.print_sheet.proofs.Passing.{passes_as}
+use Rattle.print_lines.proofs.Passing.{passes_as}
 use Rattle.print_hops.proofs.Lines.{flat_map_map}
 use Rattle.print_walks.specs.TableText.{row_line}
 use Rattle.print_walks.proofs.table.listing.put_table.Goals as goal

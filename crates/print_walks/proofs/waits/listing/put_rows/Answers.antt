@@ -1,5 +1,5 @@
 use Rattle.base_notes.specs.Entries.{entry_in}
-use Rattle.print_sheet.proofs.Passing.{passes_as, passes_more}
+use Rattle.print_lines.proofs.Passing.{passes_as, passes_more}
 use Rattle.print_hops.specs.TimedHop.{seen_timed}
 use Rattle.print_walks.specs.WaitsOf.{row_text}
 use Rattle.print_walks.proofs.WaitRowLines.{row_told}

@@ -1,6 +1,6 @@
 use Rattle.std.proofs.Common.{flat_map, take}
 use Rattle.base_notes.specs.Entries.{entry_in}
-use Rattle.print_sheet.specs.Stands.{Passes}
+use Rattle.print_lines.specs.Stands.{Passes}
 use Rattle.print_walks.specs.WaitsOf.{row_text}
 use Rattle.print_walks.proofs.waits.listing.put_rows.Given as goal
 

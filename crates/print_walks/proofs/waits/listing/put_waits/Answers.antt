@@ -4,7 +4,7 @@ use Rattle.std.proofs.Common.{ℕ, ap, ◌∙◌}
 use Rattle.base_notes.specs.Entries.{entry_in}
 use Rattle.bound_scan.specs.AnalysisOf.{angle_of, bound_of, visits_of}
 use Rattle.print_lines.specs.BoundText.{bound_text}
-use Rattle.print_sheet.proofs.Passing.{◌⊳◌, passes_as}
+use Rattle.print_lines.proofs.Passing.{◌⊳◌, passes_as}
 use Rattle.print_hops.specs.KindsOf.{waited_line}
 use Rattle.print_walks.proofs.WaitRowLines.{rows_told}
 use Rattle.print_walks.proofs.waits.listing.put_waits.Goals as goal

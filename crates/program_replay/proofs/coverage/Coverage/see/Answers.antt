@@ -12,7 +12,7 @@ use Rattle.machine_steps.specs.Keeps.{reads_load}
 use Rattle.machine_steps.specs.Step.{fetched}
 use Rattle.machine_emulator.specs.declared.step.Step.{Step}
 use Rattle.machine_emulator.specs.Machine.{Tells}
-use Rattle.machine_monitor.proofs.Judging.{told_going, told_stop}
+use Rattle.machine_emulator.proofs.Judging.{told_going, told_stop}
 use Rattle.program_replay.specs.declared.met.Met.{Met}
 use Rattle.program_replay.specs.CoverageOf.{passed_at}
 use Rattle.program_replay.proofs.Seen.{below, seen_more, stop_counts, went_counts, met_there}

@@ -7,7 +7,7 @@ use Rattle.base_notes.specs.Entries.{entry_in}
 use Rattle.machine_steps.specs.Step.{fetched}
 use Rattle.machine_emulator.specs.Feed.{cards_left}
 use Rattle.machine_emulator.specs.Machine.{IsToldOf}
-use Rattle.machine_monitor.specs.Monitor.{HasSeenKept}
+use Rattle.machine_emulator.specs.Monitor.{HasSeenKept}
 use Rattle.flow_graph.specs.SettingOf.{setting}
 use Rattle.machine_steps.specs.declared.verdict.Verdict.TheVariants.{Left}
 use Rattle.program_replay.specs.Following.{IsFollowed, state_of, stride_of}

@@ -4,7 +4,7 @@ use Rattle.std.specs.Prelude.{codes, decimal}
 use Rattle.base_words.specs.Numeral.{digits_of}
 use Rattle.bound_scan.specs.RowOf.{row_in}
 use Rattle.bound_scan.specs.Table.{counts_for}
-use Rattle.print_sheet.proofs.Passing.{◌⊳◌, passes_as}
+use Rattle.print_lines.proofs.Passing.{◌⊳◌, passes_as}
 use Rattle.print_walks.specs.TableText.{count_text}
 use Rattle.print_walks.proofs.table.line.RowLineLine.put.Goals as goal
 

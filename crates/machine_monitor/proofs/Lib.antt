@@ -1,3 +1,0 @@
-pub mod Allowing
-pub mod Judging
-pub mod Watching

@@ -1,2 +1,0 @@
-pub mod Gets
-pub mod Stands
