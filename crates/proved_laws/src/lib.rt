@@ -2,11 +2,15 @@
 //! stands on this one, so the program is proved without it.
 //!
 //! Code. A law is the contract of a function that does nothing, or that calls other laws. Each file
-//! has the laws of the definitions of one crate, whose name it has: `flow` those of `flow_graph`,
-//! `bound` those of `bound_scan`, as that a slower timing table never has a smaller bound (and
-//! `from_toml` those of `read_toml`). (A law that another crate calls stands in the file
-//! `laws` of its own crate, and so do those of `program_run`, which tell in a sentence what `bound`
-//! prints, and of `program_command`.)
+//! has the laws of the definitions of one crate: `times` of `base_notes`; `deck`, `from_toml`,
+//! `inputs`, `faults` and `documents` of `read_decks`, `read_toml`, `read_replays`, `read_faults`
+//! and `read_documents`; `rotation` and `machine` of `machine_rotation` and `machine_steps`;
+//! `flow`, `acceptance` and `loops` of `flow_graph`, `flow_acceptance` and `flow_loops`; `bound` of
+//! `bound_scan`, as that a slower timing table never has a smaller bound; `ceiling` of
+//! `ceiling_checked`; `check` of `check_deck`; `listing`, `bracket` and `graph` of `print_walks`,
+//! `print_ceilings` and `print_graphs`; `replay` of `program_replay`. (A law that another crate
+//! calls stands in the file `laws` of its own crate, and so do those of `program_run`, which tell
+//! in a sentence what `bound` prints, and of `program_command`.)
 //!
 //! Definitions: `Slower` (a timing table that is nowhere quicker than another), `Marked` (notes
 //! with more marks) and `TellsOf` (when what a line of a walk in rounds tells is so) have the words
