@@ -8,7 +8,7 @@ use Rattle.program_command.specs.declared.command.Question.TheVariants.{Bound, R
 use Rattle.program_command.specs.declared.refused.Refused.{Refused}
 use Rattle.program_command.specs.Line.{drum650, said_by}
 use Rattle.read_documents.specs.declared.documents.Documents.{Documents}
-use Rattle.read_toml.specs.declared.notes.notes_read.NotesRead.TheVariants.{Short}
+use Rattle.read_toml.specs.declared.notes.read.NotesRead.TheVariants.{Short}
 use Rattle.print_lines.specs.declared.fault.Fault.{Fault}
 use Rattle.print_lines.specs.declared.fault.Fault.TheVariants as faults
 use Rattle.program_limits.specs.Limits.{IsAnalysisFault, IsBound}

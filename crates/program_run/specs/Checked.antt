@@ -3,7 +3,7 @@ use Rattle.std.specs.Prelude.{◌≡◌, ◌≢◌, [], Option}
 use Rattle.read_decks.specs.InDeck.{loads_in, start_in}
 use Rattle.read_decks.specs.declared.deck.fault.DeckFault.TheVariants as of_deck
 use Rattle.base_notes.specs.declared.fault.NoteFault.TheVariants as of_note
-use Rattle.read_toml.specs.declared.notes.notes_read.NotesRead.TheVariants.{Long}
+use Rattle.read_toml.specs.declared.notes.read.NotesRead.TheVariants.{Long}
 use Rattle.program_command.specs.declared.command.Files.{Files}
 use Rattle.print_lines.specs.declared.fault.Fault.{Fault}
 use Rattle.print_lines.specs.declared.fault.Fault.TheVariants as fault

@@ -6,8 +6,8 @@ use Rattle.program_command.specs.declared.command.Command.TheVariants.{DrawRun}
 use Rattle.program_command.specs.declared.command.Files.{Files}
 use Rattle.program_command.specs.declared.command.Question.{Question}
 use Rattle.program_command.specs.declared.command.Question.TheVariants.{Bound, Report, Table, Size}
-use Rattle.read_toml.specs.declared.notes.notes_read.NotesRead.{NotesRead}
-use Rattle.read_toml.specs.declared.notes.notes_read.NotesRead.TheVariants.{Short, Long}
+use Rattle.read_toml.specs.declared.notes.read.NotesRead.{NotesRead}
+use Rattle.read_toml.specs.declared.notes.read.NotesRead.TheVariants.{Short, Long}
 use Rattle.read_faults.specs.FaultLines as printed
 use Rattle.read_replays.specs.declared.inputs.Inputs.{Inputs}
 use Rattle.print_lines.specs.declared.fault.Fault.{Fault}

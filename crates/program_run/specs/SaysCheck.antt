@@ -2,7 +2,7 @@
 use Rattle.std.specs.Prelude.{◌≡◌, ◌≢◌, ℕ, if◌then◌else◌, List, [], Option, ◌⊎◌}
 use Rattle.std.specs.List.{list_all}
 use Rattle.read_decks.specs.InDeck.{loads_in, start_in}
-use Rattle.read_toml.specs.declared.notes.notes_read.NotesRead.TheVariants.{Long}
+use Rattle.read_toml.specs.declared.notes.read.NotesRead.TheVariants.{Long}
 use Rattle.program_command.specs.declared.command.Files.{Files}
 use Rattle.print_lines.specs.declared.fault.Fault.{Fault}
 use Rattle.print_lines.specs.declared.status.Status.{Status}

@@ -2,7 +2,7 @@
 
 ghost use Rattle.std.specs.Prelude.{◌≡◌, ◌≤◌, ◌^◌, [], IfOk, IfErr, option_map};
 ghost use Rattle.read_decks.specs.InDeck.{loads_in, start_in};
-ghost use Rattle.read_toml.specs.declared.notes.notes_read.NotesRead.TheVariants.{Long};
+ghost use Rattle.read_toml.specs.declared.notes.read.NotesRead.TheVariants.{Long};
 ghost use Rattle.print_lines.specs.FaultStatus.{IsOutOfMemory};
 ghost use Rattle.print_lines.specs.Output.{GetsResult};
 ghost use Rattle.check_findings.specs.Lacking.{are_long, check_text, words_altered};

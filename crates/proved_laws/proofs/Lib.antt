@@ -29,7 +29,6 @@ mod Refusals
 mod ReportChecks
 mod SmallMachine
 mod SmallTable
-mod ShortAreLong
 mod Silent
 mod Sizes
 mod SlowerTables

@@ -18,12 +18,12 @@
 //!
 //! Proofs. Of single crates: `Prefixes` and `Wholes` of the machine; `SlowerTables` and
 //! `WalkPasses` of the flow graph; `Refusals` of acceptance; `Markings` of loops; `LineCases` and
-//! `DeckOrFault` of decks; `InputLines` and `InputsOrFault` of inputs; `ShortAreLong` of notes;
-//! `OneList` of faults; `OneListing` of waits; `LinesTold` of a walk in rounds; `OneRun` and
-//! `OneVerdict` of replays. What `check` finds: `Silent` and `Accepting` show where nothing is in
-//! the way of a bound, and `Firsts` what is found first; they stand on `Begins` (lists that begin
-//! with something), `Fits` (locations of which nothing is found), `Sizes` (when a size is too
-//! large) and `WriteRanges` (the words that an instruction writes follow one another).
+//! `DeckOrFault` of decks; `InputLines` and `InputsOrFault` of inputs; `OneList` of faults;
+//! `OneListing` of waits; `LinesTold` of a walk in rounds; `OneRun` and `OneVerdict` of replays.
+//! What `check` finds: `Silent` and `Accepting` show where nothing is in the way of a bound, and
+//! `Firsts` what is found first; they stand on `Begins` (lists that begin with something), `Fits`
+//! (locations of which nothing is found), `Sizes` (when a size is too large) and `WriteRanges` (the
+//! words that an instruction writes follow one another).
 //!
 //! Definitions evaluated, with answers that were worked out apart from them: `MachineChecks`
 //! (single steps with their times), `Effects` (what operations do) and `Marks` (counts), on the

@@ -2,7 +2,7 @@
 use Rattle.std.proofs.Common.{ℕ, List}
 use Rattle.print_lines.specs.declared.fault.Fault.{Fault}
 use Rattle.print_lines.specs.declared.fault.Fault.TheVariants as faults
-use Rattle.read_toml.specs.declared.notes.notes_read.NotesRead.TheVariants.{Short}
+use Rattle.read_toml.specs.declared.notes.read.NotesRead.TheVariants.{Short}
 use Rattle.read_documents.specs.Documents.{SayNone, Texts}
 use Rattle.read_documents.specs.Joined.{AreParts, JoinsNone}
 

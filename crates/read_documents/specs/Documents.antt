@@ -7,7 +7,7 @@ use Rattle.read_decks.specs.declared.deck.fault.DeckFault.TheVariants as of_deck
 use Rattle.read_decks.specs.DeckText as text
 use Rattle.read_decks.specs.DeckOfLines.{IsDeckOf}
 use Rattle.base_notes.specs.declared.times.Times.{Times}
-use Rattle.read_toml.specs.declared.notes.notes_read.NotesRead.{NotesRead}
+use Rattle.read_toml.specs.declared.notes.read.NotesRead.{NotesRead}
 use Rattle.read_toml.specs.Says.{SayTimes, SayNotesOf, AreNoTimes, AreNoNotesOf}
 use Rattle.read_replays.specs.declared.fault.InputFault.{InputFault}
 use Rattle.read_replays.specs.declared.fault.InputFault.TheVariants as of_inputs

@@ -7,7 +7,7 @@ use Rattle.base_devices.specs.declared.whole.WholeError.{WholeError}
 use Rattle.base_devices.specs.declared.whole.WholeError.TheVariants as why
 use Rattle.base_notes.specs.declared.times.Times.{Times}
 use Rattle.base_notes.specs.Allowed.{Notes}
-use Rattle.read_toml.specs.declared.notes.notes_read.NotesRead.{NotesRead}
+use Rattle.read_toml.specs.declared.notes.read.NotesRead.{NotesRead}
 use Rattle.read_toml.specs.Says.{SayTimes, SayNotes, SayNotesOf}
 use Rattle.read_replays.specs.declared.fault.InputFault.TheVariants as of_inputs
 use Rattle.read_replays.specs.declared.inputs.Inputs.{Inputs}

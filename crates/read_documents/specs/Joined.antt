@@ -7,7 +7,7 @@ use Rattle.print_lines.specs.declared.fault.Fault.{Fault}
 use Rattle.print_lines.specs.declared.fault.Fault.TheVariants as fault
 use Rattle.print_lines.specs.declared.part.Part.TheVariants as part
 use Rattle.print_lines.specs.declared.part.PartFault.TheVariants as what
-use Rattle.read_toml.specs.declared.notes.notes_read.NotesRead.TheVariants.{Short}
+use Rattle.read_toml.specs.declared.notes.read.NotesRead.TheVariants.{Short}
 use Rattle.read_documents.specs.Documents.{Texts, Say, SayNone}
 
 -- nothing, or bytes whose last is a line feed

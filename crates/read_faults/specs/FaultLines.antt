@@ -10,7 +10,8 @@ use Rattle.read_replays.specs.declared.fault.InputFault.{InputFault}
 use Rattle.read_replays.specs.InputsText.{AreInputs, given_in}
 use Rattle.read_replays.specs.InputsText as input_lines
 use Rattle.print_lines.specs.FaultText.{deck_text, input_text, note_text}
-use Rattle.read_toml.specs.AllFaults.{AreAllFaults, all_long_faults}
+use Rattle.read_toml.specs.AllFaults.{AreAllFaults}
+use Rattle.read_toml.specs.Notes.{long_notes_faults}
 use Rattle.read_toml.specs.Complaint.{line_at, column_at}
 use Rattle.base_notes.specs.declared.fault.NoteFault.{NoteFault}
 use Rattle.read_toml.specs.Document.{Fault}
@@ -171,7 +172,7 @@ pub record AreFaultLines (deck times notes : Named) (inputs : Option Named)
   pub of_times : List ℕ
   pub times_are : AreDocumentLines times_faults (codes "times") times of_times
   pub of_notes : List ℕ
-  pub notes_are : AreDocumentLines all_long_faults (codes "notes") notes of_notes
+  pub notes_are : AreDocumentLines long_notes_faults (codes "notes") notes of_notes
   pub of_inputs : List ℕ
   pub inputs_are : AreLinesOfInputs deck inputs of_inputs
   pub all : lines

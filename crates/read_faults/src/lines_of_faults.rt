@@ -2,7 +2,7 @@
 
 ghost use Rattle.std.specs.Prelude.{◌≡◌, ℕ, List, ◌++◌, codes, IfOk, Some};
 ghost use Rattle.std.specs.Prelude.{option_map};
-ghost use Rattle.read_toml.specs.AllFaults as of_notes;
+ghost use Rattle.read_toml.specs.Notes as of_notes;
 ghost use Rattle.read_toml.specs.TimesDocument as of_times;
 ghost use Rattle.read_faults.specs.FaultLines.{AreDocumentLines, AreFaultLines};
 ghost use Rattle.read_faults.specs.FaultLines.{AreLinesOfInputs};
@@ -60,7 +60,7 @@ fn with_times(alloc: Global, text: Vec<u8>, times: NamedText<'_>) -> Result<Vec<
 /// Behind a text the lines of all faults of long notes.
 fn with_notes(alloc: Global, text: Vec<u8>, notes: NamedText<'_>) -> Result<Vec<u8>, AllocError>
     ensures { IfOk result (λ new. (lines : List ℕ)
-        × AreDocumentLines of_notes.all_long_faults (codes "notes") (named notes.entry) lines
+        × AreDocumentLines of_notes.long_notes_faults (codes "notes") (named notes.entry) lines
         × (new.items ≡ text.items ++ lines)) }
 {
     let faults = long_notes_faults(alloc, notes.bytes)?;

@@ -1,9 +1,6 @@
 -- The faults that are added of a value at a key.
-use Rattle.std.proofs.Common.{◌≡◌, ℕ, zero, suc, ◌<◌, Bool, true, false, ◌||◌, cond, List, ◌∷◌, ◌++◌, map, []}
-use Rattle.std.proofs.Common.{length, get_or, Option, Some, None, Bor, refl, ap, sym, ◌∙◌, subst, arith}
-use Rattle.std.proofs.lemmas.List.{length-map}
-use Rattle.std.proofs.lemmas.Map.Text.{is_eq-slice_cmp}
-use Rattle.std.proofs.lemmas.Slice.Eq.{bytes_eq-Decides}
+use Rattle.std.proofs.Common.{◌≡◌, ℕ, Bool, true, false, cond, List, ◌∷◌, ◌++◌, []}
+use Rattle.std.proofs.Common.{Option, Some, None, refl, ap, sym, ◌∙◌, subst}
 use Rattle.std.specs.Prelude.{codes, pos, negsuc}
 use Rattle.base_words.specs.declared.op.Op.{Op}
 use Rattle.base_words.specs.Location.{is_location}
@@ -13,20 +10,13 @@ use Rattle.read_toml.specs.declared.times.read_entry.Form.{Form}
 use Rattle.read_toml.specs.AllFaults.{Adds}
 use Rattle.read_toml.specs.Document.{location_of, location_in, locations_at}
 use Rattle.read_toml.specs.Document.{Fault, kind, missing, range, unknown_in, missing_in, at_key}
-use Rattle.read_toml.specs.Document.{number_faults, is_one_of, text}
+use Rattle.read_toml.specs.Document.{number_faults}
 use Rattle.read_toml.specs.TimesDocument.{keys_of, form_of, entry_faults, plain_faults, rest_faults}
 use Rattle.read_toml.specs.TimesDocument.{operations_faults, times_faults}
-use Rattle.read_toml.specs.Value.{fault_of, StandsFor}
+use Rattle.read_toml.specs.Value.{fault_of}
 use Rattle.read_toml.proofs.Adding.{adds_more}
-use Rattle.read_toml.proofs.EntryFaults.{text_is_right}
 use Rattle.toml.specs.Data.{Data, string, integer, float, boolean, datetime, array, table, as_table}
-use Rattle.toml.specs.Data.{Members, get_member, same_key}
-
--- none without the key
-pub key_none : (check : List ℕ → Data → List Fault) (at key : List ℕ) (fields : Members)
-    → None ≡ get_member key fields → at_key check at key fields ≡ []
-key_none check at key fields lacks =
-    ap (λ (found : Option Data). elim found [ None ↦ [] | Some value ↦ check (at ++ key) value ]) (sym lacks)
+use Rattle.toml.specs.Data.{Members, get_member}
 
 -- and of its value with it
 pub key_some : (check : List ℕ → Data → List Fault) (at key : List ℕ) (fields : Members) (d : Data)
@@ -113,30 +103,3 @@ no_location (table fields) wrong faults = refl
 pub wrong_location : (fields : Members) (key : List ℕ) (d : Data) (wrong : ValueFault) → Some d ≡ get_member key fields
     → ((path : List ℕ) → number_faults path is_location d ≡ fault_of wrong path ∷ []) → locations_at key fields ≡ []
 wrong_location fields key d wrong has faults = ap location_in (sym has) ∙ no_location d wrong faults
-
--- a text for which one of some choices stands is among theirs
-among_of : {T : Type 0} (choices : List (Bor (List ℕ) × T)) (one : List ℕ) (chosen : T) (k : ℕ)
-    → k < length choices
-    → ◌≡◌ {A = List ℕ × T} (get_or (map (λ choice. (choice.0.now, choice.1)) choices) k (one, chosen)) (one, chosen)
-    → is_one_of one (map (λ choice. choice.0.now) choices) ≡ true
-among_of [] one chosen k within is = absurd (omega (arith, within))
-among_of {T} (choice ∷ choices) one chosen zero within is =
-    let same : choice.0.now ≡ one = ap (λ (pair : List ℕ × T). pair.0) is in
-    ap (λ (b : Bool). b || is_one_of one (map (λ other. other.0.now) choices))
-    (is_eq-slice_cmp choice.0.now one ∙ (bytes_eq-Decides choice.0.now one).1 same)
-among_of {T} (choice ∷ choices) one chosen (suc k) within is =
-    ap (λ (b : Bool). same_key choice.0.now one || b) (among_of choices one chosen k (omega (arith, within)) is)
-    ∙ either (same_key choice.0.now one)
-  where
-    either : (b : Bool) → (b || true) ≡ true
-    either true = refl
-    either false = refl
-
-pub chosen_is_right : {T : Type 0} (at key : List ℕ) (fields : Members) (choices : List (Bor (List ℕ) × T)) (d : Data)
-    (chosen : T) → Some d ≡ get_member key fields
-    → StandsFor (map (λ choice. (choice.0.now, choice.1)) choices) d chosen
-    → text (map (λ choice. choice.0.now) choices) at key fields ≡ []
-chosen_is_right {T} at key fields choices d chosen has stands =
-    text_is_right at key fields (map (λ choice. choice.0.now) choices) stands.0 (sym has ∙ ap Some stands.1)
-    (among_of choices stands.0 chosen stands.2.0
-    (omega (arith, stands.2.1, length-map {B = List ℕ × T} choices (λ (choice : Bor (List ℕ) × T). (choice.0.now, choice.1)))) stands.2.2)

@@ -2,11 +2,8 @@
 use Rattle.std.proofs.Common.{◌≡◌, List, ◌∷◌, ◌++◌, length, refl, ap, sym, ◌∙◌, subst, []}
 use Rattle.std.proofs.lemmas.List.{append-nil, append_assoc}
 use Rattle.base_notes.specs.declared.fault.NoteFault.{NoteFault}
-use Rattle.base_notes.specs.declared.fault.NoteFault.TheVariants.{Toml, Memory, Missing, Unknown, Range, Kind, TwoMarks}
-use Rattle.base_notes.specs.declared.fault.NoteFault.TheVariants.{TwoLists}
-use Rattle.read_toml.specs.AllFaults.{Tells, TellEach, Adds}
+use Rattle.read_toml.specs.AllFaults.{TellEach, Adds}
 use Rattle.read_toml.specs.Document.{Fault}
-use Rattle.read_toml.specs.Refused.{IsFirst}
 
 tell_append : (xs : List NoteFault) (es : List Fault) (ys : List NoteFault) (bs : List Fault) → TellEach xs es
     → TellEach ys bs → TellEach (xs ++ ys) (es ++ bs)
@@ -57,22 +54,6 @@ one_step old now next left faults others whole so_far steps adds = record {
 pub begun_at : (old : List NoteFault) (left whole : List Fault) → left ≡ whole → Left old old left whole
 begun_at old left whole same = record { done = []; adds = adds_none old; split = sym same }
 
--- what states the first of some faults is their first
-states_first : (told : NoteFault) (one : Fault) (faults : List Fault) → Tells told one → IsFirst (one ∷ faults) told
-states_first Toml one faults tells = absurd tells
-states_first Memory one faults tells = tt
-states_first (Missing path) one faults tells = (faults, ap (λ (x : Fault). x ∷ faults) tells)
-states_first (Unknown path) one faults tells = (faults, ap (λ (x : Fault). x ∷ faults) tells)
-states_first (Range path) one faults tells = (faults, ap (λ (x : Fault). x ∷ faults) tells)
-states_first (Kind path) one faults tells = (faults, ap (λ (x : Fault). x ∷ faults) tells)
-states_first (TwoMarks from onto) one faults tells = (faults, ap (λ (x : Fault). x ∷ faults) tells)
-states_first (TwoLists location) one faults tells = (faults, ap (λ (x : Fault). x ∷ faults) tells)
-
-first_of : (told : NoteFault) (others : List NoteFault) (faults : List Fault) → TellEach (told ∷ others) faults
-    → IsFirst faults told
-first_of told others [] each = absurd each
-first_of told others (one ∷ faults) each = states_first told one faults each.0
-
 pub none_of : (faults : List Fault) → TellEach [] faults → faults ≡ []
 none_of [] each = refl
 none_of (one ∷ faults) each = absurd each
@@ -80,12 +61,6 @@ none_of (one ∷ faults) each = absurd each
 -- where faults are all that there is, the first of them is the first, and where there is none there are none
 told_all : (old new told : List NoteFault) → old ≡ [] → new ≡ old ++ told → told ≡ new
 told_all old new told empty is = sym (is ∙ ap (λ (xs : List NoteFault). xs ++ told) empty)
-
-pub first_added : (old new : List NoteFault) (faults : List Fault) (fault : NoteFault) → old ≡ []
-    → (others : List NoteFault) × (new ≡ fault ∷ others) → Adds old new faults → IsFirst faults fault
-first_added old new faults fault empty (others, is) adds =
-    first_of fault others faults
-    (subst (λ (told : List NoteFault). TellEach told faults) (told_all old new adds.told empty adds.is ∙ is) adds.tell)
 
 pub none_added : (old new : List NoteFault) (faults : List Fault) → old ≡ [] → new ≡ [] → Adds old new faults
     → faults ≡ []

@@ -1,15 +1,14 @@
 -- Values that are to be edges, from a place on.
 use Rattle.std.proofs.Common.{◌≡◌, ℕ, ◌+◌, ◌<◌, Bool, true, cond, List, ◌∷◌, ◌++◌, length, get_or, drop, Some, refl, ap, []}
-use Rattle.std.proofs.Common.{sym, ◌∙◌, subst, arith}
+use Rattle.std.proofs.Common.{sym, ◌∙◌, arith}
 use Rattle.std.specs.Prelude.{codes, decimal}
 use Rattle.base_words.specs.Location.{is_location}
 use Rattle.read_toml.specs.Document.{range, number_faults, at_key, is_count}
-use Rattle.read_toml.specs.LongNotes.{edge_value_faults, edges_faults, listed_edge_faults, AreEdges, HasEdges}
+use Rattle.read_toml.specs.LongMarks.{edge_value_faults, edges_faults, listed_edge_faults}
 use Rattle.read_toml.proofs.Added.{key_some}
-use Rattle.read_toml.proofs.LongSaid.{edges_counted}
 use Rattle.read_toml.proofs.TablesFaults.{array_from, count_seen}
 use Rattle.toml.proofs.Views.{items_view-drop}
-use Rattle.toml.specs.Data.{Data, array, as_array, Items, Members, get_member}
+use Rattle.toml.specs.Data.{Data, array, as_array, Members, get_member}
 use Rattle.toml.specs.View.{view, items_view}
 use Rattle.toml.specs.declared.value.Value.{Value}
 
@@ -78,15 +77,3 @@ edges_read at key fields d vs vs' path fits has is_array is fine same same_items
     ∙ ap (λ (b : Bool). cond b (listed_edge_faults (at ++ key) 1 (items_view vs)) (range (at ++ key) ∷ [])) fine
     ∙ ap (λ (p : List ℕ). listed_edge_faults p 1 (items_view vs)) (sym same)
     ∙ ap (λ (ws : List Value). listed_edge_faults path 1 (items_view ws)) (sym same_items)
-
--- the values of an array at the key are a mark's edges where some are, and there are no more of them
-pub has_edges : (fields : Members) (d : Data) (vs vs' : List Value) (some edges : List (ℕ × ℕ))
-    → Some d ≡ get_member (codes "edges") fields → Some (items_view vs) ≡ as_array d → vs' ≡ vs
-    → HasEdges true fields some → AreEdges (items_view vs') edges → HasEdges true fields edges
-has_edges fields d vs vs' some edges has is_array same (items, is, are_some, few) are =
-    let whole : Some (array (items_view vs)) ≡ Some (array items) =
-    sym (ap Some (array_from d (items_view vs) (sym is_array))) ∙ has ∙ is in
-    let all : items_view vs ≡ items = cc in
-    let mine : AreEdges items edges =
-    subst (λ (its : Items). AreEdges its edges) (ap items_view same ∙ all) are in
-    (items, is, mine, omega (arith, few, edges_counted items some are_some, edges_counted items edges mine))

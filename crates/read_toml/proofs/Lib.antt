@@ -1,26 +1,17 @@
 mod Added
 mod Adding
 mod AllFaultsLaws
-mod CallsSaid
-mod CallsSound
 mod Choices
 mod EdgeValues
-mod EntryFaults
+mod Elements
 mod Faultless
-mod LongFaultless
-mod LongFaults
+mod Holding
+mod HoldingMarks
 mod LongMarks
-mod LongSaid
-mod LongSound
 mod Naming
-pub mod NotesFaultless
-mod NotesFaults
-mod NotesLaws
-pub mod NotesSaid
-mod NotesSound
+pub mod NotesThere
 mod Repeating
 pub mod Sequences
+mod Sound
 mod TablesFaults
 mod TimesEntries
-mod TimesFaultless
-mod TimesSaid

@@ -7,7 +7,7 @@ use Rattle.std.proofs.lemmas.Bool.{cases_lt}
 use Rattle.std.proofs.lemmas.List.{take_all}
 use Rattle.std.proofs.lemmas.Map.Text.{is_eq-slice_cmp}
 use Rattle.std.proofs.lemmas.Slice.Eq.{bytes_eq-Decides}
-use Rattle.read_toml.specs.LongNotes.{is_name_of, name_said, names_said}
+use Rattle.read_toml.specs.LongMarks.{is_name_of, name_said, names_said}
 use Rattle.toml.specs.Data.{Data, Items, no_items, item}
 use Rattle.toml.specs.View.{view, items_view}
 use Rattle.toml.specs.declared.value.Value.{Value}

@@ -1,15 +1,11 @@
 -- All faults of a document, where Refused has its first.
-use Rattle.std.specs.Prelude.{◌≡◌, ℕ, ◌⊎◌, List, [], ◌∷◌, ◌++◌, flat_map, take}
-use Rattle.std.specs.Prelude.{codes, Some, string_bytes}
+use Rattle.std.specs.Prelude.{◌≡◌, ℕ, ◌⊎◌, List, [], ◌∷◌, ◌++◌, string_bytes}
 use Rattle.base_notes.specs.declared.fault.NoteFault.{NoteFault}
 use Rattle.base_notes.specs.declared.fault.NoteFault.TheVariants.{Toml, Memory, Missing, Unknown}
 use Rattle.base_notes.specs.declared.fault.NoteFault.TheVariants.{Range, Kind, TwoMarks, TwoLists}
 use Rattle.read_toml.specs.Document.{Fault, missing, unknown, range, kind, two_marks, two_lists}
-use Rattle.read_toml.specs.Document.{in_turn, locations_at, tables}
-use Rattle.read_toml.specs.LongNotes.{edges_said, long_mark_faults, long_notes_checks}
-use Rattle.read_toml.specs.NotesDocument.{tables_at, edge_faults, location_faults}
 use Rattle.read_toml.specs.Refused.{IsDocument}
-use Rattle.toml.specs.Data.{Data, table, Members}
+use Rattle.toml.specs.Data.{Members}
 
 -- The fault that the code states is this one of a table. (Toml and Memory are none of a table.)
 abbrev pub Tells : NoteFault → Fault → Type 0
@@ -41,33 +37,3 @@ pub record Adds (old new : List NoteFault) (faults : List Fault) : Type 0 where
   pub told : List NoteFault
   pub is : new ≡ old ++ told
   pub tell : TellEach told faults
-
--- the table that an element is, if it is one
-abbrev pub table_of : Data → List Members
-table_of (table fields) = fields ∷ []
-table_of _ = []
-
--- The faults of two of a kind: of each list whose location an earlier one says, whatever else is
--- wrong with the lists. A location that a list doesn't say is no second one.
-abbrev pub repeated_locations : Members → List Fault
-repeated_locations document =
-    location_faults [] (flat_map (locations_at (codes "location"))
-    (tables_at (codes "list") document))
-
--- the faults of the array of marks
-abbrev pub mark_tables_faults : Members → List Fault
-mark_tables_faults document =
-    tables 0 (Some 64) (long_mark_faults document) [] (codes "mark") document
-
--- and of each edge that is there twice, where the marks have no other fault
-abbrev pub repeated_edges : Members → List Fault
-repeated_edges document =
-    elim (mark_tables_faults document) [
-      | [] ↦ edge_faults [] (flat_map edges_said (tables_at (codes "mark") document))
-      | _ ↦ []
-    ]
-
--- The faults of long notes, in their order, all of which have a meaning.
-abbrev pub all_long_faults : Members → List Fault
-all_long_faults document = in_turn (take 7 (long_notes_checks document))
-    ++ repeated_edges document ++ repeated_locations document

@@ -4,12 +4,10 @@ use Rattle.std.specs.Prelude.{Option, Some, None}
 use Rattle.std.specs.List.{list_any}
 use Rattle.base_words.specs.Location.{is_location}
 use Rattle.base_notes.specs.declared.notes.call.Call.{Call}
-use Rattle.base_notes.specs.EdgeOf.{edge_of}
 use Rattle.base_notes.specs.Edges.{leads}
 use Rattle.read_toml.specs.Document.{Fault, in_turn, unknown_in, missing_in, location, locations_at}
-use Rattle.read_toml.specs.Document.{at_key, number_faults}
-use Rattle.read_toml.specs.TimesDocument.{HasNumber}
-use Rattle.toml.specs.Data.{Data, Items, no_items, item, Members, get_member, as_array, as_table}
+use Rattle.read_toml.specs.Document.{at_key, items_at, number_at, number_faults}
+use Rattle.toml.specs.Data.{Data, Items, no_items, item, Members, as_table}
 
 abbrev pub call_keys : List (List ℕ)
 call_keys = codes "from" ∷ codes "to" ∷ codes "exit" ∷ codes "back" ∷ []
@@ -18,9 +16,6 @@ call_keys = codes "from" ∷ codes "to" ∷ codes "exit" ∷ codes "back" ∷ []
 pub record Opening : Type 0 where
   pub edge : ℕ × ℕ
   pub exit : ℕ
-
-abbrev pub opening_of : Call → Opening
-opening_of call = record { edge = edge_of call.edge; exit = call.exit.number }
 
 -- the opening that a table says: none where one of its three locations isn't there
 abbrev pub opening_from : List ℕ → List ℕ → List ℕ → Option Opening
@@ -45,16 +40,8 @@ abbrev pub openings_said : Items → List (Option Opening)
 openings_said no_items = []
 openings_said (item value items) = opening_said value ∷ openings_said items
 
-abbrev pub openings_of : Option Items → List (Option Opening)
-openings_of None = []
-openings_of (Some items) = openings_said items
-
-abbrev pub openings_found : Option Data → List (Option Opening)
-openings_found None = []
-openings_found (Some value) = openings_of (as_array value)
-
 abbrev pub openings_in : Members → List (Option Opening)
-openings_in document = openings_found (get_member (codes "call") document)
+openings_in document = openings_said (items_at (codes "call") document)
 
 -- whether two openings are the same, and whether what an element says is this opening
 abbrev pub is_same_opening : Opening → Opening → Bool
@@ -68,16 +55,6 @@ is_opening opening (Some one) = is_same_opening one opening
 abbrev pub is_opened : List (Option Opening) → Option Opening → Bool
 is_opened openings None = false
 is_opened openings (Some opening) = list_any (is_opening opening) openings
-
--- The table of a document says this call, the one with this index, from 0: no earlier one has its
--- edge and its exit.
-pub record IsCall (document : Members) (index : ℕ) (fields : Members) (call : Call) : Type 0 where
-  pub only : unknown_in [] call_keys fields ≡ []
-  pub from : HasNumber fields (codes "from") call.edge.from.number
-  pub onto : HasNumber fields (codes "to") call.edge.onto.number
-  pub exit : HasNumber fields (codes "exit") call.exit.number
-  pub back : HasNumber fields (codes "back") call.back.number
-  pub new : is_opened (take index (openings_in document)) (Some (opening_of call)) ≡ false
 
 -- whether a number is the exit of a table that doesn't repeat one of these openings
 abbrev pub is_new_exit : List (Option Opening) → Members → ℕ → Bool
@@ -99,3 +76,10 @@ call_checks document number at fields =
 
 abbrev pub call_faults : Members → ℕ → List ℕ → Members → List Fault
 call_faults document number at fields = in_turn (call_checks document number at fields)
+
+-- The table says this call: at the keys stand its locations.
+pub record IsCall (fields : Members) (call : Call) : Type 0 where
+  pub from : call.edge.from.number ≡ number_at (codes "from") fields
+  pub onto : call.edge.onto.number ≡ number_at (codes "to") fields
+  pub exit : call.exit.number ≡ number_at (codes "exit") fields
+  pub back : call.back.number ≡ number_at (codes "back") fields

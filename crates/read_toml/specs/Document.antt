@@ -56,11 +56,6 @@ at_key check at key fields = elim (get_member key fields) [
   | Some value ↦ check (at ++ key) value
 ]
 
--- what is wrong at a key that has to be there: that it isn't there, or what the check finds
-abbrev pub required : (List ℕ → List ℕ → Members → List Fault) → List ℕ → List ℕ → Members
-    → List Fault
-required check at key fields = missing_in at (key ∷ []) fields ++ check at key fields
-
 -- a whole number from low to high; a location; one of some texts
 abbrev pub whole : ℕ → ℕ → List ℕ → List ℕ → Members → List Fault
 whole low high at key fields =
@@ -80,6 +75,24 @@ number_in _ = 0
 
 abbrev pub number_at : List ℕ → Members → ℕ
 number_at key fields = elim (get_member key fields) [ None ↦ 0 | Some value ↦ number_in value ]
+
+-- the table that a value is, and the one at a key; an empty one where there is none
+abbrev pub table_in : Data → Members
+table_in (table fields) = fields
+table_in _ = no_members
+
+abbrev pub table_at : List ℕ → Members → Members
+table_at key fields =
+    elim (get_member key fields) [ None ↦ no_members | Some value ↦ table_in value ]
+
+-- the elements of the array that a value is, and of the one at a key; none where there is none
+abbrev pub items_in : Data → Items
+items_in (array items) = items
+items_in _ = no_items
+
+abbrev pub items_at : List ℕ → Members → Items
+items_at key fields =
+    elim (get_member key fields) [ None ↦ no_items | Some value ↦ items_in value ]
 
 -- the location that a value is, and the one at a key, if there is one
 abbrev pub location_of : Data → List ℕ

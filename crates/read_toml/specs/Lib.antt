@@ -2,7 +2,9 @@ pub mod AllFaults
 pub mod Calls
 pub mod Complaint
 pub mod Document
-pub mod LongNotes
+pub mod Elements
+pub mod LongMarks
+pub mod Notes
 pub mod NotesDocument
 pub mod Opened
 pub mod Refused

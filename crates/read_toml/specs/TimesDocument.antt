@@ -1,5 +1,5 @@
--- The timing table as a document: what it says, and its faults in their order.
-use Rattle.std.specs.Prelude.{◌≡◌, ℕ, List, [], ◌∷◌, ◌++◌, map, flat_map, codes, pos, Some, None}
+-- The timing table as a document: its faults in their order, and what one without faults says.
+use Rattle.std.specs.Prelude.{◌≡◌, ℕ, List, [], ◌∷◌, ◌++◌, map, flat_map, codes, Some, None}
 use Rattle.base_words.specs.declared.op.Op.{Op}
 use Rattle.base_words.specs.declared.op.Op.TheVariants.{Divide, DivideReset, Multiply, Shift, Read}
 use Rattle.base_words.specs.declared.op.Op.TheVariants.{Punch}
@@ -11,8 +11,8 @@ use Rattle.base_notes.specs.declared.entry.Entry.{Entry}
 use Rattle.read_toml.specs.declared.times.read_entry.Form.{Form}
 use Rattle.read_toml.specs.declared.times.read_entry.Form.TheVariants.{Plain, Units, Waits}
 use Rattle.read_toml.specs.Document.{Fault, kind, missing, unknown_in, missing_in, whole, text}
-use Rattle.read_toml.specs.Document.{number_at}
-use Rattle.toml.specs.Data.{Data, string, integer, table, Members, get_member}
+use Rattle.read_toml.specs.Document.{number_at, table_at}
+use Rattle.toml.specs.Data.{Data, string, table, Members, get_member}
 
 -- the two digits of an operation
 abbrev pub key_of : Op → List ℕ
@@ -43,46 +43,6 @@ text_of Odd = codes "odd"
 -- the largest number in an entry
 abbrev pub longest : ℕ
 longest = 1000000
-
--- the table has this whole number at a key
-abbrev pub HasNumber : Members → List ℕ → ℕ → Type 0
-HasNumber fields key n = get_member key fields ≡ Some (integer (pos n))
-
--- the numbers of an entry that not every operation has: per, wait_min and wait_max; without them
--- they are 0
-abbrev pub HasRest : Form → Members → ℕ → ℕ → ℕ → Type 0
-HasRest Plain fields per wait_min wait_max = (per ≡ 0) × (wait_min ≡ 0) × (wait_max ≡ 0)
-HasRest Units fields per wait_min wait_max =
-    HasNumber fields (codes "per") per × (wait_min ≡ 0) × (wait_max ≡ 0)
-HasRest Waits fields per wait_min wait_max =
-    (per ≡ 0) × HasNumber fields (codes "wait_min") wait_min
-    × HasNumber fields (codes "wait_max") wait_max
-
--- The table says, of this entry, the values that each entry has: before, after and parity.
-pub record IsPlain (fields : Members) (entry : Entry) : Type 0 where
-  pub before : HasNumber fields (codes "before") entry.before
-  pub after : HasNumber fields (codes "after") entry.after
-  pub parity : get_member (codes "parity") fields ≡ Some (string (text_of entry.parity))
-
--- The table says this entry, whose type keeps its numbers in their ranges, and nothing else.
-pub record IsEntry (op : Op) (fields : Members) (entry : Entry) : Type 0 where
-  pub only : unknown_in [] (keys_of (form_of op)) fields ≡ []
-  pub plain : IsPlain fields entry
-  pub others : HasRest (form_of op) fields entry.per entry.wait_min entry.wait_max
-
--- The table of operations says this entry of an operation.
-abbrev pub SaysOperation : Members → Op → Entry → Type 0
-SaysOperation operations op entry =
-    (fields : Members) × (get_member (key_of op) operations ≡ Some (table fields))
-    × IsEntry op fields entry
-
--- The document says these entries, one for each operation, and nothing else.
-pub record IsTimes (document : Members) (times : Op → Entry) : Type 0 where
-  pub only : unknown_in [] (codes "op" ∷ []) document ≡ []
-  pub operations : Members
-  pub op : get_member (codes "op") document ≡ Some (table operations)
-  pub only_operations : unknown_in [] (map key_of ops) operations ≡ []
-  pub each : (op : Op) → SaysOperation operations op (times op)
 
 -- the faults of the values that each entry has
 abbrev pub plain_faults : List ℕ → Members → List Fault
@@ -133,3 +93,22 @@ times_faults document =
       | None ↦ missing (codes "op") ∷ []
       | Some value ↦ operations_faults value
     ])
+
+-- the table of an operation
+abbrev pub entry_fields : Members → Op → Members
+entry_fields document op = table_at (key_of op) (table_at (codes "op") document)
+
+-- The table says this entry: at the keys stand its numbers, and the text of its parity. (At a key
+-- that isn't there stands 0: so `per` and the waits are 0 where an operation has none.)
+pub record IsEntry (fields : Members) (entry : Entry) : Type 0 where
+  pub before : entry.before ≡ number_at (codes "before") fields
+  pub after : entry.after ≡ number_at (codes "after") fields
+  pub parity : get_member (codes "parity") fields ≡ Some (string (text_of entry.parity))
+  pub per : entry.per ≡ number_at (codes "per") fields
+  pub wait_min : entry.wait_min ≡ number_at (codes "wait_min") fields
+  pub wait_max : entry.wait_max ≡ number_at (codes "wait_max") fields
+
+-- The document is a timing table, which says these entries, one for each operation.
+pub record IsTimes (document : Members) (times : Op → Entry) : Type 0 where
+  pub faultless : times_faults document ≡ []
+  pub each : (op : Op) → IsEntry (entry_fields document op) (times op)

@@ -5,8 +5,8 @@ ghost use Rattle.base_words.specs.declared.op.Op.{Op};
 ghost use Rattle.base_notes.specs.declared.entry.Entry.{Entry};
 ghost use Rattle.base_notes.specs.Allowed.{Notes};
 ghost use Rattle.base_notes.specs.declared.fault.NoteFault.{NoteFault};
-ghost use Rattle.read_toml.specs.AllFaults.{AreAllFaults, all_long_faults};
-ghost use Rattle.read_toml.specs.LongNotes.{IsLongNotes, long_notes_faults};
+ghost use Rattle.read_toml.specs.AllFaults.{AreAllFaults};
+ghost use Rattle.read_toml.specs.Notes.{IsLongNotes, long_notes_faults};
 ghost use Rattle.read_toml.specs.Refused.{IsDocument, IsRefused};
 ghost use Rattle.read_toml.specs.TimesDocument.{IsTimes, times_faults};
 ghost use Rattle.toml.specs.Data.{Members};
@@ -37,14 +37,12 @@ pub fn tells_times()
         × IsDocument bytes document × ((times : Op → Entry) × IsTimes document times) }
 {}
 
-/// And long notes likewise: all faults of them begin with that for which they are refused. (Two
-/// marks on one edge are looked for where the marks have no other fault, and two lists for one
-/// location even where the lists have others.)
+/// And long notes likewise.
 pub fn tells_long_notes()
     ensures first { (bytes : List ℕ) (fault : NoteFault) (others : List NoteFault)
-        → AreAllFaults all_long_faults bytes (fault ∷ others)
+        → AreAllFaults long_notes_faults bytes (fault ∷ others)
         → IsRefused long_notes_faults bytes fault }
-    ensures none { (bytes : List ℕ) → AreAllFaults all_long_faults bytes []
+    ensures none { (bytes : List ℕ) → AreAllFaults long_notes_faults bytes []
         → (document : Members) × IsDocument bytes document
         × ((notes : Notes) × IsLongNotes document notes) }
 {}

@@ -2,7 +2,7 @@ ghost use Rattle.std.specs.Prelude.{◌≡◌, ◌++◌, IfOk, map, option_map};
 ghost use Rattle.std.specs.Prelude.{string_bytes, codes};
 ghost use Rattle.read_toml.specs.Document as document;
 ghost use Rattle.toml.specs.Data.{get_member};
-ghost use Rattle.toml.specs.View.{view, table_view};
+ghost use Rattle.toml.specs.View.{items_view, view, table_view};
 
 use base_notes::KeyPath;
 use std::alloc::{AllocError, Global};
@@ -59,6 +59,19 @@ pub fn member<'a>(table: &'a Table, key: &str) -> Option<&'a Value>
         ≡ get_member key.now (table_view table.now) }
 {
     table.get(key)
+}
+
+/// The elements of the array at a key of a table; none where there is none.
+pub fn items<'a>(table: &'a Table, key: &str) -> &'a [Value]
+    ensures { items_view result.now ≡ document.items_at key.now (table_view table.now) }
+{
+    let Some(value) = member(table, key) else {
+        return &[];
+    };
+    match value.as_array() {
+        Some(items) => items,
+        None => &[],
+    }
 }
 
 /// Whether a key is one of these.

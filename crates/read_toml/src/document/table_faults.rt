@@ -4,7 +4,7 @@ ghost use Rattle.read_toml.specs.AllFaults.{Adds};
 ghost use Rattle.read_toml.specs.Document as document;
 ghost use Rattle.toml.specs.View.{view, table_view, items_view};
 
-use super::element::Element;
+use super::element::Checked;
 use super::faults::Faults;
 use super::fields::Fields;
 use super::tables::{element_path, is_count};
@@ -16,7 +16,7 @@ use toml::Value;
 impl Faults {
     /// Adds what is wrong with a key's value, which is to be an array of tables, from `low` to
     /// `high` of them, and with its elements.
-    pub fn tables<T: Element>(
+    pub fn tables<T: Checked>(
         &mut self,
         fields: &Fields<'_>,
         key: &str,
@@ -44,7 +44,7 @@ impl Faults {
     }
 
     /// Adds the faults of the elements of an array at a path.
-    fn elements<T: Element>(
+    fn elements<T: Checked>(
         &mut self,
         fields: &Fields<'_>,
         path: &str,
@@ -61,7 +61,7 @@ impl Faults {
     }
 
     /// Adds those of the element with this index, from 0.
-    fn element<T: Element>(
+    fn element<T: Checked>(
         &mut self,
         fields: &Fields<'_>,
         path: &str,

@@ -1,34 +1,25 @@
 //! Arrays of tables, each element of which stands for a value.
-ghost use Rattle.std.specs.Prelude.{◌≡◌, ◌+◌, ◌^◌, ◌<◌, [], ◌++◌, None};
-ghost use Rattle.std.specs.Prelude.{IfOk, codes, decimal};
+ghost use Rattle.std.specs.Prelude.{◌≡◌, ◌+◌, ◌^◌, ◌<◌, ◌++◌, List, IfOk, codes, decimal, length};
 ghost use Rattle.std.specs.Prelude.{string_bytes};
 ghost use Rattle.read_toml.specs.Document as document;
-ghost use Rattle.read_toml.specs.NotesDocument.{AreTables, HasTables, IsTable};
+ghost use Rattle.read_toml.specs.Elements.{Each};
+ghost use Rattle.read_toml.specs.NotesDocument.{AreSaid, table_of, tables_at, tables_of};
 ghost use Rattle.toml.specs.View.{view, table_view, items_view};
 
 use super::element::Element;
-use super::fields::Fields;
+use super::fields::{Fields, items};
 use std::alloc::{AllocError, Global};
 use toml::Value;
 
 impl Fields<'_> {
-    /// The elements of the array of tables at a key, none of which has a fault; none without the
-    /// key.
+    /// What the tables of the array at a key say.
     pub fn elements<T: Element + Drop>(&self, key: &str) -> Result<Vec<T>, AllocError>
-        requires { document.tables 0 None (T.faults (table_view self.now.whole.now)) self.now.at.now
-            key.now (table_view self.now.table.now) ≡ [] }
-        ensures { IfOk result (λ elements.
-            HasTables (T.says (table_view self.now.whole.now)) (table_view self.now.table.now)
-            key.now elements.items) }
+        requires { Each (T.holds (table_view self.now.whole.now)) 0
+            (tables_at key.now (table_view self.now.table.now)) }
+        ensures { IfOk result (λ elements. AreSaid (T.says (table_view self.now.whole.now)) 0
+            (tables_at key.now (table_view self.now.table.now)) elements.items) }
     {
-        let Some(value) = self.get(key) else {
-            return Ok(Vec::new(self.alloc));
-        };
-        let Some(items) = value.as_array() else {
-            unreachable!()
-        };
-        let path = self.path(key)?;
-        read_elements(self, path.text.as_str(), items)
+        read_elements(self, items(self.table, key))
     }
 }
 
@@ -42,52 +33,46 @@ pub fn is_count(count: usize, low: usize, high: Option<usize>) -> bool
     }
 }
 
-/// The elements of an array at a path, which the table has.
+/// What the tables among some elements say.
 fn read_elements<T: Element + Drop>(
     fields: &Fields<'_>,
-    path: &str,
     items: &[Value],
 ) -> Result<Vec<T>, AllocError>
-    requires { document.elements_faults (T.faults (table_view fields.now.whole.now)) path.now 1
-        (items_view items.now) ≡ [] }
-    ensures { IfOk result (λ elements. AreTables (T.says (table_view fields.now.whole.now)) 0
-        (items_view items.now) elements.items) }
+    requires { Each (T.holds (table_view fields.now.whole.now)) 0 (tables_of (items_view items.now)) }
+    ensures { IfOk result (λ elements. AreSaid (T.says (table_view fields.now.whole.now)) 0
+        (tables_of (items_view items.now)) elements.items) }
 {
     let mut elements = Vec::new(fields.alloc);
-    for (place, value) in items.iter().enumerate() {
-        let element = read_element(fields, path, place, value)?;
-        elements.push(element)?;
+    for value in items {
+        read_element(fields, value, &mut elements)?;
     }
     Ok(elements)
 }
 
-/// The element with this index, from 0, of the array at a path.
-fn read_element<T: Element>(
+/// Adds what an element says, if it is a table.
+fn read_element<T: Element + Drop>(
     fields: &Fields<'_>,
-    path: &str,
-    place: usize,
     value: &Value,
-) -> Result<T, AllocError>
-    requires few { place + 1 < 2 ^ 64 }
-    requires fine { document.element_faults (T.faults (table_view fields.now.whole.now)) (place + 1)
-        (path.now ++ codes "." ++ decimal (place + 1)) (view value.now) ≡ [] }
-    ensures { IfOk result (IsTable (T.says (table_view fields.now.whole.now)) place
-        (view value.now)) }
+    elements: &mut Vec<T>,
+) -> Result<(), AllocError>
+    requires { Each (T.holds (table_view fields.now.whole.now)) (length elements.old.items)
+        (table_of (view value.now)) }
+    ensures { IfOk result (λ _. (more : List T) × (elements.new.items ≡ elements.old.items ++ more)
+        × AreSaid (T.says (table_view fields.now.whole.now)) (length elements.old.items)
+        (table_of (view value.now)) more) }
 {
-    let mut at = element_path(fields.alloc, path, place)?;
     let Some(table) = value.as_table() else {
-        unreachable!()
+        return Ok(());
     };
-    at.push_str(".")?;
-    T::read(
-        &Fields {
-            alloc: fields.alloc,
-            at: at.as_str(),
-            table,
-            whole: fields.whole,
-        },
-        place,
-    )
+    let fields = Fields {
+        alloc: fields.alloc,
+        at: "",
+        table,
+        whole: fields.whole,
+    };
+    let element = T::read(&fields, elements.len())?;
+    elements.push(element)?;
+    Ok(())
 }
 
 /// The path of the element with this index, from 0.

@@ -1,7 +1,7 @@
 //! The values at the keys of a table.
-ghost use Rattle.std.specs.Prelude.{◌≡◌, [], Some, map};
+ghost use Rattle.std.specs.Prelude.{◌≡◌, Some, map};
+ghost use Rattle.base_words.specs.Location.{IsLocation};
 ghost use Rattle.read_toml.specs.Document as document;
-ghost use Rattle.read_toml.specs.TimesDocument.{HasNumber};
 ghost use Rattle.read_toml.specs.Value.{StandsFor};
 ghost use Rattle.toml.specs.Data.{Data, Members, get_member, table as toml_table};
 ghost use Rattle.toml.specs.View.{table_view};
@@ -28,22 +28,19 @@ impl Fields<'_> {
         table
     }
 
-    /// The location at a key, with which nothing is wrong.
+    /// The location whose number stands at a key.
     pub fn location(&self, key: &str) -> Location
-        requires { document.required document.location self.now.at.now key.now
-            (table_view self.now.table.now) ≡ [] }
-        ensures { HasNumber (table_view self.now.table.now) key.now result.number }
+        requires { IsLocation (document.number_at key.now (table_view self.now.table.now)) }
+        ensures { result.number ≡ document.number_at key.now (table_view self.now.table.now) }
     {
-        let Some(location) = location_at(self.table, key) else {
-            unreachable!()
-        };
-        location
+        location_of(self.number(key))
     }
 
-    /// What the text at a key stands for, with which nothing is wrong.
+    /// What the text at a key stands for, which stands for something.
     pub fn chosen<T: Copy + Drop>(&self, key: &str, choices: &[(&str, T)]) -> T
-        requires { document.required (document.text (map (λ choice. choice.0.now) choices.now))
-            self.now.at.now key.now (table_view self.now.table.now) ≡ [] }
+        requires { (value : Data) × (get_member key.now (table_view self.now.table.now) ≡ Some value)
+            × ((one : T) × StandsFor (map (λ choice. (choice.0.now, choice.1)) choices.now) value
+            one) }
         ensures { (value : Data) × (get_member key.now (table_view self.now.table.now) ≡ Some value)
             × StandsFor (map (λ choice. (choice.0.now, choice.1)) choices.now) value result }
     {
@@ -75,4 +72,15 @@ pub fn location_at(table: &Table, key: &str) -> Option<Location>
         Ok(location) => Some(location),
         Err(_) => None,
     }
+}
+
+/// The location of a number.
+pub fn location_of(number: u64) -> Location
+    requires { IsLocation number }
+    ensures { result.number ≡ number }
+{
+    let Some(location) = Location::new(number as u16) else {
+        unreachable!()
+    };
+    location
 }

@@ -6,7 +6,7 @@ ghost use Rattle.base_notes.specs.Names.{is_name};
 ghost use Rattle.base_words.specs.Location.{is_location};
 ghost use Rattle.read_toml.specs.AllFaults.{Adds};
 ghost use Rattle.read_toml.specs.Document as document;
-ghost use Rattle.read_toml.specs.LongNotes as said;
+ghost use Rattle.read_toml.specs.LongMarks as said;
 ghost use Rattle.toml.specs.View.{view, table_view, items_view};
 
 use super::named::{first_marks, is_named};

@@ -2,10 +2,10 @@
 
 ghost use Rattle.std.specs.Prelude.{◌≡◌, ◌<◌, Some, true, false, take, slice_get, length};
 ghost use Rattle.std.specs.Prelude.{option_map, IfNone, IfSome};
-ghost use Rattle.read_toml.specs.LongNotes as said;
+ghost use Rattle.read_toml.specs.LongMarks as said;
 ghost use Rattle.toml.specs.View.{view, table_view, items_view};
 
-use crate::document::fields::{Fields, member};
+use crate::document::fields::{Fields, items, member};
 use toml::Value;
 
 /// The name that an element says, if it says one.
@@ -60,11 +60,6 @@ pub fn first_marks<'a>(fields: &Fields<'a>, count: usize) -> &'a [Value]
     ensures { said.names_said (items_view result.now)
         ≡ take count (said.names_in (table_view fields.now.whole.now)) }
 {
-    let Some(value) = member(fields.whole, "mark") else {
-        return &[];
-    };
-    let Some(items) = value.as_array() else {
-        return &[];
-    };
-    &items[..count.min(items.len())]
+    let all = items(fields.whole, "mark");
+    &all[..count.min(all.len())]
 }

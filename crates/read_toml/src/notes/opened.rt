@@ -6,7 +6,7 @@ ghost use Rattle.read_toml.specs.Calls as said;
 ghost use Rattle.read_toml.specs.Opened.{opening};
 ghost use Rattle.toml.specs.View.{view, table_view, items_view};
 
-use crate::document::fields::{Fields, member};
+use crate::document::fields::{Fields, items};
 use crate::document::values::location_at;
 use base_notes::Edge;
 use base_words::Location;
@@ -74,13 +74,8 @@ fn first_calls<'a>(fields: &Fields<'a>, count: usize) -> &'a [Value]
     ensures { said.openings_said (items_view result.now)
         ≡ take count (said.openings_in (table_view fields.now.whole.now)) }
 {
-    let Some(value) = member(fields.whole, "call") else {
-        return &[];
-    };
-    let Some(items) = value.as_array() else {
-        return &[];
-    };
-    &items[..count.min(items.len())]
+    let all = items(fields.whole, "call");
+    &all[..count.min(all.len())]
 }
 
 /// Whether a call opens what one of so many earlier ones opens.

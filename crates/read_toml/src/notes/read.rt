@@ -1,18 +1,16 @@
-//! Notes, read from a document, or the first fault of the document.
+//! Notes, short ones alone or long ones, read from a document; or the first fault of the document.
 
-ghost use Rattle.std.specs.Prelude.{take, IfOk, IfErr};
-ghost use Rattle.read_toml.specs.AllFaults.{Adds};
-ghost use Rattle.read_toml.specs.Document as document;
-ghost use Rattle.read_toml.specs.NotesDocument as said;
+ghost use Rattle.std.specs.Prelude.{◌≡◌, [], IfOk, IfErr};
+ghost use Rattle.read_toml.specs.Notes as said;
 ghost use Rattle.read_toml.specs.Refused.{IsDocument, IsFirst, IsRefused};
+ghost use Rattle.read_toml.specs.Says.{AreNoNotesOf, SayNotesOf};
 ghost use Rattle.toml.specs.Data.{Members};
 ghost use Rattle.toml.specs.View.{table_view};
 
-use super::repeated::{edges_of, repeated_edge, repeated_location};
 use crate::document::faults::Faults;
 use crate::document::fields::Fields;
 use crate::document::read_document;
-use base_notes::{Listing, Mark, NoteFault, Notes, Programmed};
+use base_notes::{Call, Listing, Mark, NoteFault, Notes, Programmed};
 use std::alloc::{AllocError, Global};
 use toml::Table;
 
@@ -23,6 +21,16 @@ pub const PROGRAMMED: [(&str, Programmed); 3] = [
 ];
 
 pub const LOAD_CARDS: [(&str, bool); 2] = [("none", false), ("any", true)];
+
+/// Which notes are read.
+#[derive(Clone, Copy)]
+pub enum NotesRead {
+    /// Short notes alone: up to 8 marks, each on one edge.
+    Short,
+    /// Long notes: up to 64 marks, each on one edge or several, names, and calls. Short notes are
+    /// long notes too.
+    Long,
+}
 
 /// Reads notes: a TOML document with the keys `programmed` and `load_cards`, and optionally `mark`
 /// and `list`.
@@ -37,18 +45,55 @@ pub fn read_notes(alloc: Global, bytes: &[u8]) -> Result<Notes, NoteFault>
         × said.IsNotes whole notes) }
     ensures refused { IfErr result (IsRefused said.notes_faults bytes.now) }
 {
+    read_notes_of(alloc, NotesRead::Short, bytes)
+}
+
+/// Reads long notes: a TOML document with the keys `programmed` and `load_cards`, and optionally
+/// `mark`, `list` and `call`. Short notes are long notes too, and mean the same.
+///
+/// # Errors
+///
+/// Those of [`crate::read_notes`], in the same order, and behind what is wrong with the lists what
+/// is wrong with the calls; of a mark its unknown keys in byte order, its missing keys, and what is
+/// wrong with `from`, `to`, `edges`, `most`, `inside`, `name`; of a call likewise, with `from`,
+/// `to`, `exit`, `back`. An exit is out of range where an earlier call has it on the same edge.
+pub fn read_long_notes(alloc: Global, bytes: &[u8]) -> Result<Notes, NoteFault>
+    ensures read { IfOk result (λ notes. (whole : Members) × IsDocument bytes.now whole
+        × said.IsLongNotes whole notes) }
+    ensures refused { IfErr result (IsRefused said.long_notes_faults bytes.now) }
+{
+    read_notes_of(alloc, NotesRead::Long, bytes)
+}
+
+/// Reads notes of a kind.
+///
+/// # Errors
+///
+/// Those of [`read_notes`] or of [`read_long_notes`].
+pub fn read_notes_of(alloc: Global, read: NotesRead, bytes: &[u8]) -> Result<Notes, NoteFault>
+    ensures says { IfOk result (SayNotesOf read bytes.now) }
+    ensures refused { IfErr result (AreNoNotesOf read bytes.now) }
+{
     let table = read_document(alloc, bytes)?;
-    read_table(alloc, &table)
+    read_table(alloc, read, &table)
 }
 
 /// The notes that a document is, or its first fault.
-fn read_table(alloc: Global, table: &Table) -> Result<Notes, NoteFault>
-    ensures said { IfOk result (said.IsNotes (table_view table.now)) }
-    ensures first { IfErr result (IsFirst (said.notes_faults (table_view table.now))) }
+fn read_table(alloc: Global, read: NotesRead, table: &Table) -> Result<Notes, NoteFault>
+    ensures said { IfOk result (said.IsNotesOf read (table_view table.now)) }
+    ensures first { IfErr result (IsFirst (said.faults_of read (table_view table.now))) }
 {
     let mut faults = Faults::new(alloc);
-    faults.short_values(alloc, table)?;
+    faults.notes(alloc, read, table)?;
     faults.refuse()?;
+    Ok(notes_in(alloc, table)?)
+}
+
+/// The notes that a document without faults is.
+fn notes_in(alloc: Global, table: &Table) -> Result<Notes, AllocError>
+    requires { said.long_notes_faults (table_view table.now) ≡ [] }
+    ensures { IfOk result (said.SaysNotes (table_view table.now)) }
+{
     let top = Fields {
         alloc,
         at: "",
@@ -59,36 +104,6 @@ fn read_table(alloc: Global, table: &Table) -> Result<Notes, NoteFault>
     let load_cards = top.chosen("load_cards", &LOAD_CARDS);
     let marks: Vec<Mark> = top.elements("mark")?;
     let lists: Vec<Listing> = top.elements("list")?;
-    let edges = edges_of(alloc, &marks)?;
-    if let Some(edge) = repeated_edge(&edges) {
-        return Err(NoteFault::TwoMarks(edge.from, edge.onto));
-    }
-    if let Some(location) = repeated_location(&lists) {
-        return Err(NoteFault::TwoLists(location));
-    }
-    let calls = Vec::new(alloc);
+    let calls: Vec<Call> = top.elements("call")?;
     Ok(Notes::new(programmed, load_cards, marks, lists, calls))
-}
-
-impl Faults {
-    /// Adds those of a document that is to be short notes, but for edges and locations that are
-    /// there twice.
-    fn short_values(&mut self, alloc: Global, table: &Table) -> Result<(), AllocError>
-        ensures { IfOk result (λ _. Adds self.old.all.items self.new.all.items
-            (document.in_turn (take 6 (said.notes_checks (table_view table.now))))) }
-    {
-        let top = Fields {
-            alloc,
-            at: "",
-            table,
-            whole: table,
-        };
-        self.unknown(&top, &["programmed", "load_cards", "mark", "list"])?;
-        self.missing(&top, &["programmed", "load_cards"])?;
-        self.choice(&top, "programmed", &PROGRAMMED)?;
-        self.choice(&top, "load_cards", &LOAD_CARDS)?;
-        self.tables::<Mark>(&top, "mark", 0, Some(Mark::MOST_SHORT))?;
-        self.tables::<Listing>(&top, "list", 0, None)?;
-        Ok(())
-    }
 }

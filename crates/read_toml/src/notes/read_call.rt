@@ -4,11 +4,12 @@ ghost use Rattle.std.specs.Prelude.{◌≡◌, ◌∷◌, [], take, codes, List,
 ghost use Rattle.read_toml.specs.AllFaults.{Adds};
 ghost use Rattle.read_toml.specs.Calls as said;
 ghost use Rattle.read_toml.specs.Document as document;
+ghost use Rattle.read_toml.specs.Elements.{HoldsCall};
 ghost use Rattle.read_toml.specs.Value.{fault_of};
 ghost use Rattle.toml.specs.View.{view, table_view};
 
 use super::opened::repeats;
-use crate::document::element::Element;
+use crate::document::element::{Checked, Element};
 use crate::document::faults::Faults;
 use crate::document::fields::Fields;
 use crate::document::value::{self, ValueFault};
@@ -52,9 +53,7 @@ impl Faults {
     }
 }
 
-impl Element for Call {
-    ghost says = { said.IsCall };
-
+impl Checked for Call {
     ghost faults = { said.call_faults };
 
     fn check(into: &mut Faults, fields: &Fields<'_>, place: usize) -> Result<(), AllocError> {
@@ -66,6 +65,12 @@ impl Element for Call {
         into.location(fields, "back")?;
         Ok(())
     }
+}
+
+impl Element for Call {
+    ghost holds = { λ _ _. HoldsCall };
+
+    ghost says = { λ _ _. said.IsCall };
 
     fn read(fields: &Fields<'_>, _place: usize) -> Result<Call, AllocError> {
         Ok(Call {

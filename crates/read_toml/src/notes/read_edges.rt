@@ -1,50 +1,78 @@
-//! The edges that a mark of long notes lists, read from its table, where none of them is wrong.
+//! The edges that a mark's table says, read.
 
-ghost use Rattle.std.specs.Prelude.{◌≡◌, ◌≤◌, ℕ, List, map, length, pos, true, IsTrue, IfOk};
-ghost use Rattle.base_words.specs.Location.{is_location};
+ghost use Rattle.std.specs.Prelude.{◌≡◌, ◌∷◌, ◌≤◌, length, map, IfOk};
+ghost use Rattle.std.specs.List.{AllByRecursion};
 ghost use Rattle.base_notes.specs.EdgeOf.{edge_of};
-ghost use Rattle.read_toml.specs.LongNotes as said;
-ghost use Rattle.toml.specs.Data.{integer};
+ghost use Rattle.read_toml.specs.Elements.{IsOnLocations};
+ghost use Rattle.read_toml.specs.LongMarks as said;
 ghost use Rattle.toml.specs.View.{view, table_view, items_view};
 
-use crate::document::fields::Fields;
+use crate::document::fields::{Fields, items};
 use crate::document::value;
-use base_notes::Edge;
-use base_words::Location;
+use crate::document::values::location_of;
+use base_notes::{Edge, Edges};
 use std::alloc::{AllocError, Global};
 use toml::Value;
 
-/// The location that a value is.
-fn read_end(value: &Value) -> Location
-    requires { (n : ℕ) × (view value.now ≡ integer (pos n)) × IsTrue (is_location n) }
-    ensures { view value.now ≡ integer (pos result.number) }
+/// The edges of a mark.
+#[derive(Drop)]
+pub struct MarkEdges {
+    pub first: Edge,
+    pub others: Edges,
+}
+
+impl MarkEdges {
+    /// Edges, of which there is one at least.
+    pub fn of(alloc: Global, edges: &[Edge]) -> Result<MarkEdges, AllocError>
+        requires { 1 ≤ length edges.now }
+        ensures { IfOk result (λ made. edge_of made.first ∷ made.others ≡ map edge_of edges.now) }
+    {
+        let mut others = Vec::new(alloc);
+        others.extend_from_slice(&edges[1..])?;
+        Ok(MarkEdges {
+            first: edges[0],
+            others: Edges::new(others),
+        })
+    }
+}
+
+/// Whether a mark's table lists its edges: it has the key for that, and neither `from` nor `to`.
+pub fn lists_edges(fields: &Fields<'_>) -> bool
+    ensures { result ≡ said.lists_edges (table_view fields.now.table.now) }
 {
-    let Ok(location) = value::location(value) else {
-        unreachable!()
+    fields.get("edges").is_some() && !(fields.get("from").is_some() || fields.get("to").is_some())
+}
+
+/// The numbers of the two locations that a value is; 0 for both where it isn't two values.
+fn ends_of(value: &Value) -> (u64, u64)
+    ensures { (result.0, result.1) ≡ said.edge_of_value (view value.now) }
+{
+    let Some(ends) = value.as_array() else {
+        return (0, 0);
     };
-    location
+    if ends.len() != 2 {
+        return (0, 0);
+    }
+    (value::number(&ends[0]), value::number(&ends[1]))
 }
 
 /// The edge that a value is.
 fn read_edge(value: &Value) -> Edge
-    requires { (edge : ℕ × ℕ) × said.IsEdgeValue edge (view value.now) }
-    ensures { said.IsEdgeValue (edge_of result) (view value.now) }
+    requires { IsOnLocations (said.edge_of_value (view value.now)) }
+    ensures { edge_of result ≡ said.edge_of_value (view value.now) }
 {
-    let Some(ends) = value.as_array() else {
-        unreachable!()
-    };
+    let (from, onto) = ends_of(value);
     Edge {
-        from: read_end(&ends[0]),
-        onto: read_end(&ends[1]),
+        from: location_of(from),
+        onto: location_of(onto),
     }
 }
 
 /// The edges that the elements of an array are.
 fn read_listed(alloc: Global, items: &[Value]) -> Result<Vec<Edge>, AllocError>
-    requires { (edges : List (ℕ × ℕ)) × said.AreEdges (items_view items.now) edges }
-    ensures said { IfOk result (λ edges.
-        said.AreEdges (items_view items.now) (map edge_of edges.items)) }
-    ensures count { IfOk result (λ edges. length edges.items ≡ length items.now) }
+    requires { AllByRecursion IsOnLocations (said.edges_listed (items_view items.now)) }
+    ensures { IfOk result (λ edges.
+        map edge_of edges.items ≡ said.edges_listed (items_view items.now)) }
 {
     let mut edges = Vec::new(alloc);
     for item in items {
@@ -53,19 +81,18 @@ fn read_listed(alloc: Global, items: &[Value]) -> Result<Vec<Edge>, AllocError>
     Ok(edges)
 }
 
-/// The edges that a mark's table lists, 1 to 64.
+/// The edges that a mark's table says.
 pub fn read_edges(fields: &Fields<'_>) -> Result<Vec<Edge>, AllocError>
-    requires { (edges : List (ℕ × ℕ)) × said.HasEdges true (table_view fields.now.table.now) edges
-        × (1 ≤ length edges) }
-    ensures said { IfOk result (λ edges.
-        said.HasEdges true (table_view fields.now.table.now) (map edge_of edges.items)) }
-    ensures some { IfOk result (λ edges. 1 ≤ length edges.items) }
+    requires { AllByRecursion IsOnLocations (said.edges_said (table_view fields.now.table.now)) }
+    ensures { IfOk result (λ edges.
+        map edge_of edges.items ≡ said.edges_said (table_view fields.now.table.now)) }
 {
-    let Some(value) = fields.get("edges") else {
-        unreachable!()
+    if lists_edges(fields) {
+        return read_listed(fields.alloc, items(fields.table, "edges"));
+    }
+    let edge = Edge {
+        from: fields.location("from"),
+        onto: fields.location("to"),
     };
-    let Some(items) = value.as_array() else {
-        unreachable!()
-    };
-    read_listed(fields.alloc, items)
+    Ok(vec![in fields.alloc; edge]?)
 }

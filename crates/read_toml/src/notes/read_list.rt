@@ -1,17 +1,16 @@
 //! The lists of notes and their patterns, checked and read.
 
 ghost use Rattle.base_notes.specs.Listed.{listed};
+ghost use Rattle.read_toml.specs.Elements.{HoldsList, HoldsPattern};
 ghost use Rattle.read_toml.specs.NotesDocument as said;
 
-use crate::document::element::Element;
+use crate::document::element::{Checked, Element};
 use crate::document::faults::Faults;
 use crate::document::fields::Fields;
 use base_notes::{Listing, Pattern};
 use std::alloc::AllocError;
 
-impl Element for Pattern {
-    ghost says = { λ _ _. said.IsPattern };
-
+impl Checked for Pattern {
     ghost faults = { λ _. said.pattern_faults };
 
     fn check(into: &mut Faults, fields: &Fields<'_>, _place: usize) -> Result<(), AllocError> {
@@ -25,6 +24,12 @@ impl Element for Pattern {
         into.whole_number(fields, "i", 0, 9999)?;
         Ok(())
     }
+}
+
+impl Element for Pattern {
+    ghost holds = { λ _ _. HoldsPattern };
+
+    ghost says = { λ _ _. said.IsPattern };
 
     fn read(fields: &Fields<'_>, _place: usize) -> Result<Pattern, AllocError> {
         Ok(Pattern {
@@ -36,9 +41,7 @@ impl Element for Pattern {
     }
 }
 
-impl Element for Listing {
-    ghost says = { λ _ _ fields list. said.IsListed fields (listed list) };
-
+impl Checked for Listing {
     ghost faults = { λ _. said.list_faults };
 
     fn check(into: &mut Faults, fields: &Fields<'_>, _place: usize) -> Result<(), AllocError> {
@@ -49,6 +52,12 @@ impl Element for Listing {
         into.tables::<Pattern>(fields, "pattern", 1, Some(Listing::MOST))?;
         Ok(())
     }
+}
+
+impl Element for Listing {
+    ghost holds = { λ _ _. HoldsList };
+
+    ghost says = { λ _ _ fields list. said.IsListed fields (listed list) };
 
     fn read(fields: &Fields<'_>, _place: usize) -> Result<Listing, AllocError> {
         Ok(Listing {

@@ -1,25 +1,59 @@
 //! The edges that an earlier one is, and the lists for the location of an earlier one.
 ghost use Rattle.std.specs.Prelude.{◌≡◌, ◌∷◌, [], if◌then◌else◌, map, flat_map, codes, IfOk};
 ghost use Rattle.base_notes.specs.EdgeOf.{edge_of};
-ghost use Rattle.read_toml.specs.AllFaults as all;
+ghost use Rattle.base_notes.specs.Marks.{edges_of as edges_of_mark};
 ghost use Rattle.read_toml.specs.AllFaults.{Adds};
 ghost use Rattle.read_toml.specs.Document as document;
 ghost use Rattle.read_toml.specs.Document.{two_marks, two_lists};
+ghost use Rattle.read_toml.specs.Notes as notes;
 ghost use Rattle.read_toml.specs.NotesDocument as said;
 ghost use Rattle.toml.specs.View.{view, table_view, items_view};
 
-use super::repeated::has_edge;
 use crate::document::faults::Faults;
-use crate::document::fields::Fields;
+use crate::document::fields::{Fields, items};
 use crate::document::values::location_at;
-use base_notes::{Edge, NoteFault};
+use base_notes::{Edge, Mark, NoteFault};
 use base_words::Location;
 use std::alloc::{AllocError, Global};
 use toml::Value;
 
+/// The edges of marks, in order.
+fn edges_of(alloc: Global, marks: &[Mark]) -> Result<Vec<Edge>, AllocError>
+    ensures { IfOk result (λ edges. map edge_of edges.items ≡ flat_map edges_of_mark marks.now) }
+{
+    let mut edges = Vec::new(alloc);
+    for mark in marks {
+        edges.push(mark.first())?;
+        edges.extend_from_slice(mark.others.all())?;
+    }
+    Ok(edges)
+}
+
+/// Whether an edge is among these.
+fn has_edge(edges: &[Edge], edge: Edge) -> bool
+    ensures { result ≡ said.has_edge (map edge_of edges.now) (edge_of edge) }
+{
+    for one in edges {
+        if one.leads(edge.from, edge.onto) {
+            return true;
+        }
+    }
+    false
+}
+
 impl Faults {
+    /// Adds each edge of these marks that an earlier one is.
+    pub fn second_edges(&mut self, alloc: Global, marks: &[Mark]) -> Result<(), AllocError>
+        ensures { IfOk result (λ _. Adds self.old.all.items self.new.all.items
+            (said.edge_faults [] (flat_map edges_of_mark marks.now))) }
+    {
+        let edges = edges_of(alloc, marks)?;
+        self.each_second(&edges)?;
+        Ok(())
+    }
+
     /// Adds each edge that an earlier one is.
-    pub fn second_edges(&mut self, edges: &[Edge]) -> Result<(), AllocError>
+    fn each_second(&mut self, edges: &[Edge]) -> Result<(), AllocError>
         ensures { IfOk result (λ _. Adds self.old.all.items self.new.all.items
             (said.edge_faults [] (map edge_of edges.now))) }
     {
@@ -44,9 +78,9 @@ impl Faults {
     /// Adds each list of a document for whose location an earlier one is.
     pub fn repeated_lists(&mut self, top: &Fields<'_>) -> Result<(), AllocError>
         ensures { IfOk result (λ _. Adds self.old.all.items self.new.all.items
-            (all.repeated_locations (table_view top.now.table.now))) }
+            (notes.repeated_locations (table_view top.now.table.now))) }
     {
-        let places = places_of(top.alloc, items_at(top, "list"))?;
+        let places = places_of(top.alloc, items(top.table, "list"))?;
         self.second_places(top.alloc, &places)?;
         Ok(())
     }
@@ -92,23 +126,9 @@ fn places_of(alloc: Global, items: &[Value]) -> Result<Vec<Location>, AllocError
     Ok(places)
 }
 
-/// The elements of the array at a key; none without one.
-fn items_at<'a>(fields: &'a Fields<'_>, key: &str) -> &'a [Value]
-    ensures { said.tables_of (items_view result.now)
-        ≡ said.tables_at key.now (table_view fields.now.table.now) }
-{
-    let Some(value) = fields.get(key) else {
-        return &[];
-    };
-    match value.as_array() {
-        Some(items) => items,
-        None => &[],
-    }
-}
-
 /// The location that an element is for, if it says one.
 fn listed_location(item: &Value) -> Option<Location>
-    ensures { flat_map (document.locations_at (codes "location")) (all.table_of (view item.now))
+    ensures { flat_map (document.locations_at (codes "location")) (said.table_of (view item.now))
         ≡ document.numbers_of result }
 {
     location_at(item.as_table()?, "location")

@@ -2,9 +2,9 @@
 
 ghost use Rattle.std.specs.Prelude.{◌≡◌, ℕ, [], map, slice_get, Some, IfOk, IfErr};
 ghost use Rattle.base_words.specs.declared.op.Op.{Op};
-ghost use Rattle.base_notes.specs.declared.entry.Entry.{Entry};
 ghost use Rattle.base_words.specs.Op.{ops};
 ghost use Rattle.base_notes.specs.Entries.{entry_in};
+ghost use Rattle.read_toml.specs.Document.{table_at};
 ghost use Rattle.read_toml.specs.Refused.{IsDocument, IsFirst, IsRefused};
 ghost use Rattle.read_toml.specs.TimesDocument as document;
 ghost use Rattle.toml.specs.Data.{Members};
@@ -70,10 +70,11 @@ fn times_in(alloc: Global, table: &Table) -> Times
 /// The entries of the operations, in their order; `keys` are their keys.
 fn read_entries(operations: &Fields<'_>, keys: &[&str], ops: &[Op]) -> Times
     requires keyed { map (λ key. key.now) keys.now ≡ map document.key_of ops.now }
-    requires each { (op : Op) → (entry : Entry)
-        × document.SaysOperation (table_view operations.now.table.now) op entry }
+    requires faultless { (op : Op)
+        → document.operation_faults (table_view operations.now.table.now) op ≡ [] }
     ensures { (k : ℕ) (op : Op) → slice_get ops.now k ≡ Some op
-        → document.SaysOperation (table_view operations.now.table.now) op (entry_in result op) }
+        → document.IsEntry (table_at (document.key_of op) (table_view operations.now.table.now))
+        (entry_in result op) }
 {
     let blank = Entry {
         before: 1,
@@ -85,17 +86,16 @@ fn read_entries(operations: &Fields<'_>, keys: &[&str], ops: &[Op]) -> Times
     };
     let mut entries = [blank; 100];
     for (at, op) in ops.iter().enumerate() {
-        entries[op.number() as usize] = read_operation(operations, keys[at], *op);
+        entries[op.number() as usize] = read_operation(operations, keys[at]);
     }
     Times::new(entries)
 }
 
 /// The entry of an operation, of which this is the key.
-fn read_operation(operations: &Fields<'_>, key: &str, op: Op) -> Entry
-    requires keyed { key.now ≡ document.key_of op }
-    requires said { (entry : Entry)
-        × document.SaysOperation (table_view operations.now.table.now) op entry }
-    ensures { document.SaysOperation (table_view operations.now.table.now) op result }
+fn read_operation(operations: &Fields<'_>, key: &str) -> Entry
+    requires { (op : Op) × (key.now ≡ document.key_of op)
+        × (document.operation_faults (table_view operations.now.table.now) op ≡ []) }
+    ensures { document.IsEntry (table_at key.now (table_view operations.now.table.now)) result }
 {
     let fields = Fields {
         alloc: operations.alloc,
@@ -103,7 +103,7 @@ fn read_operation(operations: &Fields<'_>, key: &str, op: Op) -> Entry
         table: operations.table(key),
         whole: operations.whole,
     };
-    read_entry(&fields, op)
+    read_entry(&fields)
 }
 
 /// The keys of the operations, two digits each, in ascending order.

@@ -1,6 +1,6 @@
 //! An entry of a timing table, read from its keys.
 
-ghost use Rattle.std.specs.Prelude.{◌≡◌, ◌≤◌, map};
+ghost use Rattle.std.specs.Prelude.{◌≡◌, map};
 ghost use Rattle.base_notes.specs.declared.entry.Entry.{Entry};
 ghost use Rattle.read_toml.specs.TimesDocument as document;
 ghost use Rattle.toml.specs.View.{table_view};
@@ -47,55 +47,17 @@ pub const PARITIES: [(&str, Parity); 3] = [
     ("odd", Parity::Odd),
 ];
 
-/// The numbers that not every operation has, in word times; 0 for an operation without them.
-#[derive(Clone, Copy)]
-struct Rest {
-    per: u32,
-    wait_min: u32,
-    wait_max: u32,
-    ghost short_per: { per ≤ 1000000 },
-    ghost waits: { wait_min ≤ wait_max },
-    ghost short_wait: { wait_max ≤ 1000000 },
-}
-
-/// What an entry of a form says beside what each says.
-fn read_rest(fields: &Fields<'_>, form: Form) -> Rest
-    requires { (entry : Entry) × document.HasRest form (table_view fields.now.table.now) entry.per
-        entry.wait_min entry.wait_max }
-    ensures { document.HasRest form (table_view fields.now.table.now) result.per result.wait_min
-        result.wait_max }
+/// The entry that a table says.
+pub fn read_entry(fields: &Fields<'_>) -> Entry
+    requires { (entry : Entry) × document.IsEntry (table_view fields.now.table.now) entry }
+    ensures { document.IsEntry (table_view fields.now.table.now) result }
 {
-    match form {
-        Form::Plain => Rest {
-            per: 0,
-            wait_min: 0,
-            wait_max: 0,
-        },
-        Form::Units => Rest {
-            per: fields.number("per") as u32,
-            wait_min: 0,
-            wait_max: 0,
-        },
-        Form::Waits => Rest {
-            per: 0,
-            wait_min: fields.number("wait_min") as u32,
-            wait_max: fields.number("wait_max") as u32,
-        },
-    }
-}
-
-/// The entry that the table of an operation says.
-pub fn read_entry(fields: &Fields<'_>, op: Op) -> Entry
-    requires { (entry : Entry) × document.IsEntry op (table_view fields.now.table.now) entry }
-    ensures { document.IsEntry op (table_view fields.now.table.now) result }
-{
-    let rest = read_rest(fields, form_of(op));
     Entry {
         before: fields.number("before") as u32,
         after: fields.number("after") as u32,
         parity: fields.chosen("parity", &PARITIES),
-        per: rest.per,
-        wait_min: rest.wait_min,
-        wait_max: rest.wait_max,
+        per: fields.number("per") as u32,
+        wait_min: fields.number("wait_min") as u32,
+        wait_max: fields.number("wait_max") as u32,
     }
 }

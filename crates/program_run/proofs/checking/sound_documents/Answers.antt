@@ -6,7 +6,7 @@ use Rattle.read_decks.specs.declared.deck.fault.DeckFault.{DeckFault}
 use Rattle.read_faults.specs.NamedTexts.{named}
 use Rattle.read_documents.specs.Documents.{SayNone, texts_of}
 use Rattle.read_documents.specs.TextsOf.{texts_in}
-use Rattle.read_toml.specs.declared.notes.notes_read.NotesRead.TheVariants.{Long}
+use Rattle.read_toml.specs.declared.notes.read.NotesRead.TheVariants.{Long}
 use Rattle.program_run.specs.SaysCheck.{in_file_of}
 use Rattle.program_run.proofs.Soundly.{only_memory}
 use Rattle.program_run.proofs.checking.sound_documents.Goals as goal

@@ -4,7 +4,7 @@ use Rattle.std.proofs.Common.{None, refl, subst, inl, inr, arith}
 use Rattle.std.proofs.lemmas.Result.{err_from_is_err_and}
 use Rattle.read_documents.specs.Asked.{named_in}
 use Rattle.read_documents.specs.Files.{AreHeld, AreNotHeld, AreTold, Contents}
-use Rattle.read_toml.specs.declared.notes.notes_read.NotesRead.{NotesRead}
+use Rattle.read_toml.specs.declared.notes.read.NotesRead.{NotesRead}
 use Rattle.program_run.specs.Commands.{read_for}
 use Rattle.base_devices.specs.Device.{device}
 use Rattle.program_run.proofs.Looking.{of_file, of_result}

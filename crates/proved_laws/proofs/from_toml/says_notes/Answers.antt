@@ -1,9 +1,9 @@
-use Rattle.read_toml.proofs.NotesFaultless.{notes_said}
-use Rattle.read_toml.proofs.NotesSaid.{notes_right}
+use Rattle.read_toml.proofs.NotesThere.{notes_there, short_too}
 use Rattle.proved_laws.proofs.from_toml.says_notes.Goals as goal
 
 pub returns-clause-right : goal.returns-clause-right
-returns-clause-right c = notes_right
+returns-clause-right c = λ document notes is. is.0
 
 pub returns-clause-said : goal.returns-clause-said
-returns-clause-said c = notes_said
+returns-clause-said c = λ document none.
+    let there = notes_there document (short_too document none) in (there.0, (none, there.1))

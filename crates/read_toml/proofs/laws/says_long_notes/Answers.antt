@@ -1,9 +1,8 @@
-use Rattle.read_toml.proofs.LongFaultless.{long_notes_said}
-use Rattle.read_toml.proofs.LongSaid.{long_right}
+use Rattle.read_toml.proofs.NotesThere.{notes_there}
 use Rattle.read_toml.proofs.laws.says_long_notes.Goals as goal
 
 pub returns-clause-right : goal.returns-clause-right
-returns-clause-right c = long_right
+returns-clause-right c = λ document notes is. is.0
 
 pub returns-clause-said : goal.returns-clause-said
-returns-clause-said c = long_notes_said
+returns-clause-said c = λ document none. let there = notes_there document none in (there.0, (none, there.1))

@@ -1,6 +1,6 @@
 use Rattle.std.proofs.Common.{◌≡◌, drop}
 use Rattle.toml.specs.View.{items_view}
-use Rattle.read_toml.specs.LongNotes as said
+use Rattle.read_toml.specs.LongMarks as said
 use Rattle.read_toml.proofs.notes.named.first_named.Given as goal
 
 -- what is left says the name where all do

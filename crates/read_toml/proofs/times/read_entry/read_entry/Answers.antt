@@ -1,14 +1,24 @@
--- The entry of a table that says one: its numbers are those at the keys.
-use Rattle.std.proofs.Common.{subst, sym}
+use Rattle.std.proofs.Common.{◌∷◌, [], refl}
+use Rattle.std.specs.Prelude.{codes}
+use Rattle.base_words.specs.declared.parity.Parity.TheVariants.{Any, Even, Odd}
+use Rattle.toml.specs.Data.{string}
 use Rattle.toml.specs.View.{table_view}
-use Rattle.read_toml.specs.declared.times.read_entry.Form.{Form}
-use Rattle.read_toml.specs.TimesDocument.{HasRest}
+use Rattle.read_toml.specs.TimesDocument.{text_of}
+use Rattle.read_toml.proofs.Choices.{chosen_text}
+use Rattle.read_toml.proofs.TimesEntries.{parity_stands}
 use Rattle.read_toml.proofs.times.read_entry.read_entry.Goals as goal
 
-pub read_rest-rest-requires : goal.read_rest-rest-requires
-read_rest-rest-requires c =
-    let entry = c.requires.0 in (
-      entry,
-      subst (λ (form : Form). HasRest form (table_view c.args.fields.now.table.now) entry.per entry.wait_min entry.wait_max)
-          (sym c.form_of.ensures) c.requires.1.others,
-    )
+pub chosen-requires : goal.chosen-requires
+chosen-requires c =
+    (string (text_of c.requires.0.parity), c.requires.1.parity, (c.requires.0.parity, parity_stands c.requires.0.parity))
+
+pub returns : goal.returns
+returns c = record {
+  before = c.number.ensures;
+  after = c.number-2.ensures;
+  parity = chosen_text text_of ((codes "any", Any) ∷ (codes "even", Even) ∷ (codes "odd", Odd) ∷ []) (codes "parity")
+      (table_view c.args.fields.now.table.now) c.chosen.result (refl, (refl, (refl, tt))) c.chosen.ensures;
+  per = c.number-3.ensures;
+  wait_min = c.number-4.ensures;
+  wait_max = c.number-5.ensures;
+}

@@ -1,6 +1,6 @@
 use Rattle.std.proofs.Common.{◌+◌, drop}
 use Rattle.toml.specs.View.{items_view}
-use Rattle.read_toml.specs.LongNotes as said
+use Rattle.read_toml.specs.LongMarks as said
 use Rattle.read_toml.proofs.Adding.{Left}
 use Rattle.read_toml.proofs.document.faults.Faults.each_edge.Given as goal
 

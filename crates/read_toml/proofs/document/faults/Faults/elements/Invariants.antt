@@ -8,5 +8,5 @@ use Rattle.read_toml.proofs.document.faults.Faults.elements.Given as goal
 abbrev pub invariant-loop-place : goal.invariant-loop-place
 invariant-loop-place g l =
     Left l.initial.self.all.items l.self.all.items
-    (document.elements_faults (g.T.Element.faults (table_view l.fields.whole.now)) l.path (l.place + 1) (items_view (drop l.place l.items)))
-    (document.elements_faults (g.T.Element.faults (table_view l.fields.whole.now)) l.path 1 (items_view l.items))
+    (document.elements_faults (g.T.Checked.faults (table_view l.fields.whole.now)) l.path (l.place + 1) (items_view (drop l.place l.items)))
+    (document.elements_faults (g.T.Checked.faults (table_view l.fields.whole.now)) l.path 1 (items_view l.items))

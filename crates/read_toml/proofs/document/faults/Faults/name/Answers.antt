@@ -4,7 +4,7 @@ use Rattle.std.specs.Prelude.{codes}
 use Rattle.base_notes.specs.Names.{is_name}
 use Rattle.toml.specs.View.{view, table_view}
 use Rattle.read_toml.specs.Document.{range}
-use Rattle.read_toml.specs.LongNotes as said
+use Rattle.read_toml.specs.LongMarks as said
 use Rattle.read_toml.proofs.Added.{key_some}
 use Rattle.read_toml.proofs.Adding.{adds_none, adds_same}
 use Rattle.read_toml.proofs.LongMarks.{name_text}

@@ -2,7 +2,7 @@
 use Rattle.std.proofs.Common.{ℕ, List, Option, true, false, ap, sym, ◌∙◌}
 use Rattle.std.specs.Prelude.{codes}
 use Rattle.toml.specs.View.{view, table_view}
-use Rattle.read_toml.specs.LongNotes as said
+use Rattle.read_toml.specs.LongMarks as said
 use Rattle.read_toml.proofs.Added.{key_some}
 use Rattle.read_toml.proofs.Adding.{adds_none, adds_same}
 use Rattle.read_toml.proofs.LongMarks.{outer_text}

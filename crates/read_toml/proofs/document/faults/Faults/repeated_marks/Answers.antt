@@ -1,27 +1,32 @@
 -- Of repeated_marks: the marks have no fault, and the edges are those that they say.
-use Rattle.std.proofs.Common.{map, sym, ap, ◌∙◌, subst, []}
+use Rattle.std.proofs.Common.{List, [], ap, sym, ◌∙◌, subst}
 use Rattle.std.specs.Prelude.{codes, flat_map}
 use Rattle.toml.specs.Data.{Members}
 use Rattle.toml.specs.View.{table_view}
-use Rattle.base_notes.specs.EdgeOf.{edge_of}
 use Rattle.base_notes.specs.Marks.{edges_of}
-use Rattle.read_toml.specs.LongNotes.{IsLongMark}
-use Rattle.read_toml.specs.NotesDocument as said
+use Rattle.read_toml.specs.Document.{Fault}
+use Rattle.read_toml.specs.Elements.{Each, HoldsMark}
+use Rattle.read_toml.specs.LongMarks.{IsMark}
+use Rattle.read_toml.specs.Notes.{repeated_edges}
+use Rattle.read_toml.specs.NotesDocument.{AreSaid, edge_faults, tables_at}
 use Rattle.read_toml.proofs.Adding.{adds_same}
-use Rattle.read_toml.proofs.LongFaults.{those_where}
-use Rattle.read_toml.proofs.LongSound.{long_edges_same, long_said, mark_in}
+use Rattle.read_toml.proofs.NotesThere.{marks_hold_of}
+use Rattle.read_toml.proofs.Sound.{edges_same}
 use Rattle.read_toml.proofs.document.faults.Faults.repeated_marks.Goals as goal
+
+pub elements-requires : goal.elements-requires
+elements-requires c =
+    let D = table_view c.args.top.now.table.now in
+    subst (λ (W : Members). Each (HoldsMark W) 0 (tables_at (codes "mark") D)) (sym c.requires.whole)
+    (marks_hold_of c.args.read D (c.requires.fine c.if-not-fine.false))
 
 pub returns : goal.returns
 returns c =
     let D = table_view c.args.top.now.table.now in
-    let longs = c.in_ok-elements.field-0.items in
-    let has : said.HasTables (IsLongMark D) D (codes "mark") (map mark_in longs) =
-    long_said D D longs (subst (λ (document : Members). said.HasTables (λ place fields one. IsLongMark document place fields one.mark)
-    D (codes "mark") longs) c.requires.whole c.in_ok-elements.ensures) in
+    let marks = c.in_ok-marks.marks.items in
+    let are = subst (λ (W : Members). AreSaid (IsMark W) 0 (tables_at (codes "mark") D) marks) c.requires.whole
+    c.in_ok-marks.ensures in
     adds_same _ _ _ _
-    (ap (said.edge_faults [])
-    (ap (map edge_of) c.deref-2.ensures.value ∙ c.in_ok-edges.ensures ∙ ap (flat_map edges_of) c.deref.ensures.value
-    ∙ ap (flat_map edges_of) c.in_ok-marks.ensures ∙ sym (long_edges_same D D (map mark_in longs) has))
-    ∙ sym (those_where D (c.requires.fine c.if-not-fine.false)))
+    (ap (edge_faults []) (ap (flat_map edges_of) c.deref.ensures.value ∙ sym (edges_same D 0 (tables_at (codes "mark") D) marks are))
+    ∙ sym (ap (λ (faults : List Fault). repeated_edges faults D) (c.requires.fine c.if-not-fine.false)))
     c.in_ok-second_edges.ensures

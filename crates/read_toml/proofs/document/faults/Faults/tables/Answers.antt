@@ -8,7 +8,7 @@ use Rattle.read_toml.proofs.document.faults.Faults.tables.Goals as goal
 pub returns-then-not-is_count : goal.returns-then-not-is_count
 returns-then-not-is_count g c =
     adds_same _ _ _ _
-    (sym (tables_are c.args.low c.args.high (g.T.Element.faults (table_view c.args.fields.now.whole.now)) c.args.fields.now.at.now c.args.key.now
+    (sym (tables_are c.args.low c.args.high (g.T.Checked.faults (table_view c.args.fields.now.whole.now)) c.args.fields.now.at.now c.args.key.now
     (table_view c.args.fields.now.table.now) (view c.in-Some.value.now) c.in-Some-as_array.items.now.items
     false c.in-Some.ensures c.in-Some-as_array.ensures
     (sym c.if-not-is_count.true ∙ c.is_count.ensures
@@ -18,7 +18,7 @@ returns-then-not-is_count g c =
 pub returns : goal.returns
 returns g c =
     adds_same _ _ _ _
-    (sym (tables_read c.args.low c.args.high (g.T.Element.faults (table_view c.args.fields.now.whole.now)) c.args.fields.now.at.now c.args.key.now
+    (sym (tables_read c.args.low c.args.high (g.T.Checked.faults (table_view c.args.fields.now.whole.now)) c.args.fields.now.at.now c.args.key.now
     (table_view c.args.fields.now.table.now) (view c.in-Some.value.now) c.in-Some-as_array.items.now.items
     c.deref.result.now c.as_str.result.now c.is_count.result c.in-Some.ensures c.in-Some-as_array.ensures
     (c.is_count.ensures ∙ ap (is_count c.args.low c.args.high) (c.len.ensures ∙ c.in-Some-as_array.items.now.ok.0))

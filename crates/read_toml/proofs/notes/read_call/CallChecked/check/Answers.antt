@@ -1,0 +1,21 @@
+use Rattle.std.proofs.Common.{◌≡◌, ◌+◌, ◌-◌, ℕ, ap, arith, take}
+use Rattle.std.specs.Prelude.{codes}
+use Rattle.toml.specs.View.{table_view}
+use Rattle.read_toml.specs.Calls.{exit_faults, openings_in}
+use Rattle.read_toml.proofs.Adding.{adds_more, adds_same, adds_none}
+use Rattle.read_toml.proofs.notes.read_call.CallChecked.check.Goals as goal
+
+pub returns : goal.returns
+returns c =
+    let at = c.args.fields.now.at.now in
+    let fields = table_view c.args.fields.now.table.now in
+    let openings = openings_in (table_view c.args.fields.now.whole.now) in
+    let earlier : c.args.place ≡ c.args.place + 1 - 1 = omega arith in
+    adds_more _ _ _ _ _ c.in_ok-unknown.ensures
+    (adds_more _ _ _ _ _ c.in_ok-missing.ensures
+    (adds_more _ _ _ _ _ c.in_ok-location.ensures
+    (adds_more _ _ _ _ _ c.in_ok-location-2.ensures
+    (adds_more _ _ _ _ _
+    (adds_same _ _ _ _ (ap (λ (n : ℕ). exit_faults (take n openings) at (codes "exit") fields) earlier)
+    c.in_ok-exit.ensures)
+    (adds_more _ _ _ _ _ c.in_ok-location-3.ensures (adds_none _))))))
