@@ -17,7 +17,7 @@ use Rattle.read_toml.specs.Document.{whole}
 use Rattle.read_toml.specs.Elements.{Each, HoldsCall, HoldsList, HoldsMark}
 use Rattle.read_toml.specs.LongMarks.{IsMark, edge_checks, lists_edges, long_mark_checks, long_mark_faults, long_mark_keys}
 use Rattle.read_toml.specs.LongMarks.{name_faults, names_in, outer_faults, wanted_keys}
-use Rattle.read_toml.specs.Notes.{SaysNotes, calls_faults, faults_of, keys_of, long_notes_faults, mark_checks, mark_faults}
+use Rattle.read_toml.specs.Notes.{SaysNotes, faults_of, keys_of, long_notes_faults, mark_checks, mark_faults}
 use Rattle.read_toml.specs.Notes.{mark_keys, marks_faults, notes_checks, repeated_edges}
 use Rattle.read_toml.specs.NotesDocument as said
 use Rattle.read_toml.specs.Value.{StandsFor}
@@ -41,7 +41,7 @@ marks_hold D none = tables_hold 0 (Some 64) (long_mark_faults D) (HoldsMark D) (
 
 pub all_hold : (D : Members) → long_notes_faults D ≡ [] → AllHold D
 all_hold D none =
-    let each = each_none (notes_checks (keys_of Long) (marks_faults Long D) (calls_faults Long D) D) none in record {
+    let each = each_none (notes_checks Long D) none in record {
       marks = marks_hold D each.1.1.1.1.0;
       lists = tables_hold 0 None said.list_faults (λ _. HoldsList) list_holds [] (codes "list") D each.1.1.1.1.1.0;
       calls = each_weaker (CallAt D) (λ _. HoldsCall) (call_holds D) 0 (said.tables_at (codes "call") D)
@@ -53,7 +53,7 @@ switch_keys = codes "programmed" ∷ codes "load_cards" ∷ []
 
 pub notes_there : (D : Members) → long_notes_faults D ≡ [] → (notes : Notes) × SaysNotes D notes
 notes_there D none =
-    let each = each_none (notes_checks (keys_of Long) (marks_faults Long D) (calls_faults Long D) D) none in
+    let each = each_none (notes_checks Long D) none in
     let hold = all_hold D none in
     let has_programmed = value_there [] switch_keys D (codes "programmed") each.1.0 refl in
     let has_load_cards = value_there [] switch_keys D (codes "load_cards") each.1.0 refl in
@@ -202,10 +202,10 @@ marks_too D = go (get_member (codes "mark") D)
 
 pub short_too : (D : Members) → faults_of Short D ≡ [] → long_notes_faults D ≡ []
 short_too D none =
-    let each = each_none (notes_checks (keys_of Short) (marks_faults Short D) (calls_faults Short D) D) none in
+    let each = each_none (notes_checks Short D) none in
     let no_calls = nothing_at [] (keys_of Short) (codes "call") D refl each.0 in
     let marks = marks_too D each.1.1.1.1.0 in
-    none_in (notes_checks (keys_of Long) (marks_faults Long D) (calls_faults Long D) D) (
+    none_in (notes_checks Long D) (
       known_too [] (keys_of Short) (keys_of Long) note_keys_too D each.0,
       (
         each.1.0,

@@ -20,7 +20,7 @@ use Rattle.read_toml.specs.Document.{Fault, two_marks, two_lists, element_faults
 use Rattle.read_toml.specs.Document.{array_faults, tables}
 use Rattle.read_toml.specs.Elements.{Each, HoldsList}
 use Rattle.read_toml.specs.LongMarks.{IsMark, StandsIn, edges_said, long_mark_faults, names_in}
-use Rattle.read_toml.specs.Notes.{calls_faults, keys_of, long_notes_faults, marks_faults, notes_checks, repeated_edges}
+use Rattle.read_toml.specs.Notes.{long_notes_faults, marks_faults, notes_checks, repeated_edges}
 use Rattle.read_toml.specs.NotesDocument as said
 use Rattle.read_toml.proofs.Elements.{array_parts, found_items, said_length, tables_few, tables_hold}
 use Rattle.read_toml.proofs.Faultless.{LocationAt, each_none, said_of}
@@ -287,7 +287,7 @@ pub sound_of : (D : Members) (programmed : Programmed) (load_cards : Bool) (mark
       calls = calls;
     })
 sound_of D programmed load_cards marks lists calls none has_marks has_lists has_calls =
-    let each = each_none (notes_checks (keys_of Long) (marks_faults Long D) (calls_faults Long D) D) none in
+    let each = each_none (notes_checks Long D) none in
     let marks_fine = each.1.1.1.1.0 in
     let lists_none = each.1.1.1.1.1.0 in
     let calls_fine = each.1.1.1.1.1.1.0 in

@@ -17,19 +17,15 @@ use Rattle.toml.specs.Data.{string, Members, get_member}
 abbrev pub mark_keys : List (List ℕ)
 mark_keys = codes "from" ∷ codes "to" ∷ codes "most" ∷ codes "inside" ∷ []
 
--- the fault of the number of a mark's outer one, which is from 1 to the number of earlier marks
-abbrev pub inside_faults : ℕ → List ℕ → Members → List Fault
-inside_faults earlier at fields = whole 1 earlier at (codes "inside") fields
-
 -- the faults that each check of a mark of short notes finds, of this number, from 1: unknown keys,
--- missing keys, and then the values
+-- missing keys, and then the values; the outer mark is an earlier one, by its number
 abbrev pub mark_checks : ℕ → List ℕ → Members → List (List Fault)
 mark_checks number at fields =
     unknown_in at mark_keys fields
     ∷ missing_in at (codes "from" ∷ codes "to" ∷ codes "most" ∷ []) fields
     ∷ location at (codes "from") fields ∷ location at (codes "to") fields
     ∷ whole 0 9999 at (codes "most") fields
-    ∷ inside_faults (number - 1) at fields ∷ []
+    ∷ whole 1 (number - 1) at (codes "inside") fields ∷ []
 
 abbrev pub mark_faults : ℕ → List ℕ → Members → List Fault
 mark_faults number at fields = in_turn (mark_checks number at fields)
@@ -46,20 +42,6 @@ abbrev pub repeated_locations : Members → List Fault
 repeated_locations document =
     location_faults []
     (flat_map (locations_at (codes "location")) (tables_at (codes "list") document))
-
--- The faults that each check of notes finds, where these are the keys that they may have, the faults
--- of their marks, and those of their calls.
-abbrev pub notes_checks : List (List ℕ) → List Fault → List Fault → Members → List (List Fault)
-notes_checks keys marks calls document =
-    unknown_in [] keys document
-    ∷ missing_in [] (codes "programmed" ∷ codes "load_cards" ∷ []) document
-    ∷ text (map text_of (Stop ∷ Run ∷ Any ∷ [])) [] (codes "programmed") document
-    ∷ text (map load_text_of (false ∷ true ∷ [])) [] (codes "load_cards") document
-    ∷ marks
-    ∷ tables 0 None list_faults [] (codes "list") document
-    ∷ calls
-    ∷ repeated_edges marks document
-    ∷ repeated_locations document ∷ []
 
 -- the keys that notes may have
 abbrev pub keys_of : NotesRead → List (List ℕ)
@@ -78,12 +60,23 @@ abbrev pub calls_faults : NotesRead → Members → List Fault
 calls_faults Short document = []
 calls_faults Long document = tables 0 (Some 64) (call_faults document) [] (codes "call") document
 
+-- The faults that each check of notes finds.
+abbrev pub notes_checks : NotesRead → Members → List (List Fault)
+notes_checks read document =
+    unknown_in [] (keys_of read) document
+    ∷ missing_in [] (codes "programmed" ∷ codes "load_cards" ∷ []) document
+    ∷ text (map text_of (Stop ∷ Run ∷ Any ∷ [])) [] (codes "programmed") document
+    ∷ text (map load_text_of (false ∷ true ∷ [])) [] (codes "load_cards") document
+    ∷ marks_faults read document
+    ∷ tables 0 None list_faults [] (codes "list") document
+    ∷ calls_faults read document
+    ∷ repeated_edges (marks_faults read document) document
+    ∷ repeated_locations document ∷ []
+
 -- The faults of short notes, or of long ones, in their order. The first is why they are refused, and
 -- a check reports them all.
 abbrev pub faults_of : NotesRead → Members → List Fault
-faults_of read document =
-    in_turn (notes_checks (keys_of read) (marks_faults read document) (calls_faults read document)
-    document)
+faults_of read document = in_turn (notes_checks read document)
 
 abbrev pub notes_faults : Members → List Fault
 notes_faults document = faults_of Short document

@@ -1,6 +1,7 @@
 use Rattle.std.proofs.Common.{◌≡◌, ◌+◌, ◌-◌, ℕ, ap, arith}
 use Rattle.toml.specs.View.{table_view}
-use Rattle.read_toml.specs.Notes.{inside_faults}
+use Rattle.std.specs.Prelude.{codes}
+use Rattle.read_toml.specs.Document.{whole}
 use Rattle.read_toml.proofs.Adding.{adds_more, adds_same, adds_none}
 use Rattle.read_toml.proofs.notes.short_mark.ShortMarkChecked.check.Goals as goal
 
@@ -15,5 +16,5 @@ returns c =
     (adds_more _ _ _ _ _ c.in_ok-location-2.ensures
     (adds_more _ _ _ _ _ c.in_ok-whole_number.ensures
     (adds_more _ _ _ _ _
-    (adds_same _ _ _ _ (ap (λ (n : ℕ). inside_faults n at fields) earlier) c.in_ok-whole_number-2.ensures)
+    (adds_same _ _ _ _ (ap (λ (n : ℕ). whole 1 n at (codes "inside") fields) earlier) c.in_ok-whole_number-2.ensures)
     (adds_none _))))))
