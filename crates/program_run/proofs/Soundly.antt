@@ -10,7 +10,7 @@ use Rattle.print_lines.specs.declared.fault.Fault.TheVariants as faults
 use Rattle.read_documents.specs.Documents.{IsNoDeck, SayNone, Texts}
 use Rattle.read_toml.specs.declared.notes.read.NotesRead.TheVariants.{Long}
 use Rattle.read_toml.specs.Document.{Fault as DocumentFault}
-use Rattle.read_toml.specs.Notes.{long_notes_faults}
+use Rattle.read_toml.specs.LongNotes.{long_notes_faults}
 use Rattle.read_toml.specs.Refused.{Begin, IsDocument, IsRefused}
 use Rattle.read_toml.specs.TimesDocument.{times_faults}
 use Rattle.program_run.specs.Checked.{IsMemoryOfText}

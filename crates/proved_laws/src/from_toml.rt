@@ -2,8 +2,8 @@
 
 ghost use Rattle.std.specs.Prelude.{◌≡◌, []};
 ghost use Rattle.base_notes.specs.Allowed.{Notes};
-ghost use Rattle.read_toml.specs.Notes.{IsLongNotes};
-ghost use Rattle.read_toml.specs.Notes.{IsNotes, notes_faults};
+ghost use Rattle.read_toml.specs.LongNotes.{IsLongNotes};
+ghost use Rattle.read_toml.specs.ShortNotes.{IsNotes, notes_faults};
 ghost use Rattle.toml.specs.Data.{Members};
 
 /// A document says short notes exactly if it has no fault, as `read_toml` has it of a timing table

@@ -11,7 +11,7 @@ use Rattle.read_replays.specs.InputsText.{AreInputs, given_in}
 use Rattle.read_replays.specs.InputsText as input_lines
 use Rattle.print_lines.specs.FaultText.{deck_text, input_text, note_text}
 use Rattle.read_toml.specs.AllFaults.{AreAllFaults}
-use Rattle.read_toml.specs.Notes.{long_notes_faults}
+use Rattle.read_toml.specs.LongNotes.{long_notes_faults}
 use Rattle.read_toml.specs.Complaint.{line_at, column_at}
 use Rattle.base_notes.specs.declared.fault.NoteFault.{NoteFault}
 use Rattle.read_toml.specs.Document.{Fault}

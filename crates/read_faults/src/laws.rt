@@ -9,7 +9,7 @@ ghost use Rattle.read_decks.specs.DeckText.{Line, IsDeck};
 ghost use Rattle.read_faults.specs.FaultLines.{Named, AreFaultLines};
 ghost use Rattle.base_notes.specs.declared.entry.Entry.{Entry};
 ghost use Rattle.base_notes.specs.Allowed.{Notes};
-ghost use Rattle.read_toml.specs.Notes.{IsLongNotes};
+ghost use Rattle.read_toml.specs.LongNotes.{IsLongNotes};
 ghost use Rattle.read_toml.specs.Refused.{IsDocument};
 ghost use Rattle.read_toml.specs.TimesDocument.{IsTimes};
 ghost use Rattle.toml.specs.Data.{Members};

@@ -2,7 +2,7 @@
 
 ghost use Rattle.std.specs.Prelude.{◌≡◌, ℕ, List, ◌++◌, codes, IfOk, Some};
 ghost use Rattle.std.specs.Prelude.{option_map};
-ghost use Rattle.read_toml.specs.Notes as of_notes;
+ghost use Rattle.read_toml.specs.LongNotes as of_notes;
 ghost use Rattle.read_toml.specs.TimesDocument as of_times;
 ghost use Rattle.read_faults.specs.FaultLines.{AreDocumentLines, AreFaultLines};
 ghost use Rattle.read_faults.specs.FaultLines.{AreLinesOfInputs};

@@ -12,6 +12,7 @@ mod Naming
 pub mod NotesThere
 mod Repeating
 pub mod Sequences
+pub mod ShortMeaning
 mod Sound
 mod TablesFaults
 mod TimesEntries

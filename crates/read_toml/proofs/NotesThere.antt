@@ -2,7 +2,7 @@
 use Rattle.std.proofs.Common.{◌≡◌, ℕ, ◌+◌, ◌-◌, Bool, true, false, ◌||◌, ◌&&◌, cond, List, [], ◌∷◌, ◌++◌, Option, Some, None}
 use Rattle.std.proofs.Common.{map, refl, ap, sym, ◌∙◌, arith, le-leb, is_some}
 use Rattle.std.proofs.lemmas.Bool.{and_parts, leb-true}
-use Rattle.std.specs.Prelude.{codes, decimal, nat_le, not}
+use Rattle.std.specs.Prelude.{codes, decimal, flat_map, nat_le, not}
 use Rattle.base_notes.specs.declared.notes.listing.Listing.{Listing}
 use Rattle.base_notes.specs.declared.notes.programmed.Programmed.{Programmed}
 use Rattle.base_notes.specs.declared.notes.programmed.Programmed.TheVariants.{Stop, Run, Any}
@@ -11,22 +11,25 @@ use Rattle.base_notes.specs.Listed.{listed}
 use Rattle.read_toml.specs.declared.notes.read.NotesRead.{NotesRead}
 use Rattle.read_toml.specs.declared.notes.read.NotesRead.TheVariants.{Short, Long}
 use Rattle.read_toml.specs.Calls.{IsCall, call_faults}
-use Rattle.read_toml.specs.Document.{Fault, array_faults, at_key, count_of, element_faults, elements_faults}
+use Rattle.read_toml.specs.Document.{Fault, array_faults, at_key, count_of, element_faults, elements_faults, in_turn}
 use Rattle.read_toml.specs.Document.{is_count, is_one_of, location, missing_in, number_faults, range, tables, unknown, unknown_in}
 use Rattle.read_toml.specs.Document.{whole}
 use Rattle.read_toml.specs.Elements.{Each, HoldsCall, HoldsList, HoldsMark}
 use Rattle.read_toml.specs.LongMarks.{IsMark, edge_checks, lists_edges, long_mark_checks, long_mark_faults, long_mark_keys}
-use Rattle.read_toml.specs.LongMarks.{name_faults, names_in, outer_faults, wanted_keys}
-use Rattle.read_toml.specs.Notes.{SaysNotes, faults_of, keys_of, long_notes_faults, mark_checks, mark_faults}
-use Rattle.read_toml.specs.Notes.{mark_keys, marks_faults, notes_checks, repeated_edges}
+use Rattle.read_toml.specs.LongMarks.{edges_by, edges_said, name_faults, names_in, outer_faults, wanted_keys}
+use Rattle.read_toml.specs.Kinds.{calls_of, edges_of, keys_of, marks_of}
+use Rattle.read_toml.specs.LongNotes.{IsLongNotes, long_marks_faults, long_note_keys, long_notes_faults}
 use Rattle.read_toml.specs.NotesDocument as said
+use Rattle.read_toml.specs.Says.{faults_of}
+use Rattle.read_toml.specs.ShortNotes as short
+use Rattle.read_toml.specs.ShortNotes.{mark_checks, mark_faults, mark_keys, note_keys}
 use Rattle.read_toml.specs.Value.{StandsFor}
 use Rattle.read_toml.proofs.Elements.{array_parts, each_weaker, said_each, tables_hold}
 use Rattle.read_toml.proofs.Faultless.{each_none, none_in, nothing_at, said_of, text_there, value_there}
 use Rattle.read_toml.proofs.Holding.{CallAt, call_at, call_holds, list_holds}
 use Rattle.read_toml.proofs.HoldingMarks.{mark_holds}
 use Rattle.read_toml.proofs.Sequences.{none_before, none_behind, no_faults}
-use Rattle.read_toml.proofs.Sound.{sound_of}
+use Rattle.read_toml.proofs.Sound.{long_checks, repeated_where, sound_of}
 use Rattle.toml.specs.Data.{Data, string, integer, float, boolean, datetime, array, table, Items, no_items, item, Members}
 use Rattle.toml.specs.Data.{get_member, no_members, member, same_key}
 
@@ -36,12 +39,12 @@ pub record AllHold (D : Members) : Type 0 where
   pub lists : Each (λ _. HoldsList) 0 (said.tables_at (codes "list") D)
   pub calls : Each (λ _. HoldsCall) 0 (said.tables_at (codes "call") D)
 
-pub marks_hold : (D : Members) → marks_faults Long D ≡ [] → Each (HoldsMark D) 0 (said.tables_at (codes "mark") D)
+pub marks_hold : (D : Members) → long_marks_faults D ≡ [] → Each (HoldsMark D) 0 (said.tables_at (codes "mark") D)
 marks_hold D none = tables_hold 0 (Some 64) (long_mark_faults D) (HoldsMark D) (mark_holds D) [] (codes "mark") D none
 
 pub all_hold : (D : Members) → long_notes_faults D ≡ [] → AllHold D
 all_hold D none =
-    let each = each_none (notes_checks Long D) none in record {
+    let each = each_none (long_checks D) none in record {
       marks = marks_hold D each.1.1.1.1.0;
       lists = tables_hold 0 None said.list_faults (λ _. HoldsList) list_holds [] (codes "list") D each.1.1.1.1.1.0;
       calls = each_weaker (CallAt D) (λ _. HoldsCall) (call_holds D) 0 (said.tables_at (codes "call") D)
@@ -51,9 +54,9 @@ all_hold D none =
 abbrev switch_keys : List (List ℕ)
 switch_keys = codes "programmed" ∷ codes "load_cards" ∷ []
 
-pub notes_there : (D : Members) → long_notes_faults D ≡ [] → (notes : Notes) × SaysNotes D notes
+pub notes_there : (D : Members) → long_notes_faults D ≡ [] → (notes : Notes) × IsLongNotes D notes
 notes_there D none =
-    let each = each_none (notes_checks Long D) none in
+    let each = each_none (long_checks D) none in
     let hold = all_hold D none in
     let has_programmed = value_there [] switch_keys D (codes "programmed") each.1.0 refl in
     let has_load_cards = value_there [] switch_keys D (codes "load_cards") each.1.0 refl in
@@ -68,12 +71,15 @@ notes_there D none =
     let calls = said_each (λ index fields call. IsCall fields call) 0 (said.tables_at (codes "call") D) hold.calls in (
       record { programmed = programmed.0; load_cards = load_cards.0; marks = marks.0; lists = lists.0; calls = calls.0 },
       record {
-        programmed = programmed.1;
-        load_cards = load_cards.1;
+        faultless = none;
         marks = marks.1;
-        lists = lists.1;
         calls = calls.1;
-        sound = sound_of D programmed.0 load_cards.0 marks.0 lists.0 calls.0 none marks.1 lists.1 calls.1;
+        rest = record {
+          programmed = programmed.1;
+          load_cards = load_cards.1;
+          lists = lists.1;
+          sound = sound_of D programmed.0 load_cards.0 marks.0 lists.0 calls.0 none marks.1 lists.1 calls.1;
+        };
       },
     )
 
@@ -105,7 +111,7 @@ mark_keys_too key =
     one_more (same_key (codes "from") key) (same_key (codes "to") key) (same_key (codes "most") key)
     (same_key (codes "inside") key) (same_key (codes "name") key)
 
-note_keys_too : (key : List ℕ) → is_one_of key (keys_of Short) ≡ true → is_one_of key (keys_of Long) ≡ true
+note_keys_too : (key : List ℕ) → is_one_of key note_keys ≡ true → is_one_of key long_note_keys ≡ true
 note_keys_too key =
     one_more (same_key (codes "programmed") key) (same_key (codes "load_cards") key) (same_key (codes "mark") key)
     (same_key (codes "list") key) (same_key (codes "call") key)
@@ -128,23 +134,26 @@ outer_too names earlier at fields = go (get_member (codes "inside") fields)
     go (Some (array items)) fine = cc
     go (Some (table _)) fine = cc
 
+-- a mark of short notes doesn't list its edges
+single : (at : List ℕ) (fields : Members) → unknown_in at mark_keys fields ≡ [] → lists_edges fields ≡ false
+single at fields known =
+    ap (λ (found : Option Data). is_some found && not (is_some (get_member (codes "from") fields)
+    || is_some (get_member (codes "to") fields))) (nothing_at at mark_keys (codes "edges") fields refl known)
+
 -- so a mark of short notes without a fault has none in long notes
 mark_too : (D : Members) (number : ℕ) (at : List ℕ) (fields : Members) → mark_faults number at fields ≡ []
     → long_mark_faults D number at fields ≡ []
 mark_too D number at fields none =
     let each = each_none (mark_checks number at fields) none in
-    let no_edges = nothing_at at mark_keys (codes "edges") fields refl each.0 in
     let no_name = nothing_at at mark_keys (codes "name") fields refl each.0 in
-    let single : lists_edges fields ≡ false =
-    ap (λ (found : Option Data). is_some found && not (is_some (get_member (codes "from") fields)
-    || is_some (get_member (codes "to") fields))) no_edges in
+    let one = single at fields each.0 in
     none_in (long_mark_checks D number at fields) (
-      ap (λ (b : Bool). unknown_in at (long_mark_keys b) fields) single
+      ap (λ (b : Bool). unknown_in at (long_mark_keys b) fields) one
           ∙ known_too at mark_keys (long_mark_keys false) mark_keys_too fields each.0,
       (
-        ap (λ (b : Bool). missing_in at (wanted_keys b) fields) single ∙ each.1.0,
+        ap (λ (b : Bool). missing_in at (wanted_keys b) fields) one ∙ each.1.0,
         (
-          ap (λ (b : Bool). edge_checks b at fields) single
+          ap (λ (b : Bool). edge_checks b at fields) one
               ∙ no_faults (location at (codes "from") fields) (location at (codes "to") fields) each.1.1.0 each.1.1.1.0,
           (
             each.1.1.1.1.0,
@@ -179,7 +188,7 @@ elements_too D path number (item value items) none =
     one at (datetime d) fine = cc
     one at (array items) fine = cc
 
-pub marks_too : (D : Members) → marks_faults Short D ≡ [] → marks_faults Long D ≡ []
+pub marks_too : (D : Members) → short.marks_faults D ≡ [] → long_marks_faults D ≡ []
 marks_too D = go (get_member (codes "mark") D)
   where
     go : (found : Option Data) → said_of (array_faults 0 (Some 8) mark_faults (codes "mark")) found ≡ []
@@ -200,13 +209,41 @@ marks_too D = go (get_member (codes "mark") D)
     go (Some (datetime d)) none = cc
     go (Some (table _)) none = cc
 
-pub short_too : (D : Members) → faults_of Short D ≡ [] → long_notes_faults D ≡ []
+-- where the marks are those of short notes without a fault, each says the one edge from `from` to `to`
+pub one_edge : (number : ℕ) (at : List ℕ) (fields : Members) → mark_faults (number + 1) at fields ≡ []
+    → (let edges : List (ℕ × ℕ) = short.edge_in fields ∷ [] in edges_said fields ≡ edges)
+one_edge number at fields none =
+    ap (λ (b : Bool). edges_by b fields) (single at fields (each_none (mark_checks (number + 1) at fields) none).0)
+
+edges_map : (place : ℕ) (tables : List Members)
+    → Each (λ _ fields. let edges : List (ℕ × ℕ) = short.edge_in fields ∷ [] in edges_said fields ≡ edges) place tables
+    → flat_map edges_said tables ≡ map short.edge_in tables
+edges_map place [] each = refl
+edges_map place (fields ∷ tables) each =
+    ap (λ (es : List (ℕ × ℕ)). es ++ flat_map edges_said tables) each.0
+    ∙ ap (λ (es : List (ℕ × ℕ)). short.edge_in fields ∷ es) (edges_map (place + 1) tables each.1)
+
+pub short_edges : (D : Members) → short.marks_faults D ≡ []
+    → flat_map edges_said (said.tables_at (codes "mark") D) ≡ map short.edge_in (said.tables_at (codes "mark") D)
+short_edges D none =
+    edges_map 0 (said.tables_at (codes "mark") D)
+    (tables_hold 0 (Some 8) mark_faults
+    (λ _ fields. let edges : List (ℕ × ℕ) = short.edge_in fields ∷ [] in edges_said fields ≡ edges) one_edge []
+    (codes "mark") D none)
+
+abbrev pub short_checks : Members → List (List Fault)
+short_checks D =
+    said.notes_checks note_keys (short.marks_faults D) [] (map short.edge_in (said.tables_at (codes "mark") D)) D
+
+pub short_too : (D : Members) → short.notes_faults D ≡ [] → long_notes_faults D ≡ []
 short_too D none =
-    let each = each_none (notes_checks Short D) none in
-    let no_calls = nothing_at [] (keys_of Short) (codes "call") D refl each.0 in
+    let each = each_none (short_checks D) none in
+    let no_calls = nothing_at [] note_keys (codes "call") D refl each.0 in
     let marks = marks_too D each.1.1.1.1.0 in
-    none_in (notes_checks Long D) (
-      known_too [] (keys_of Short) (keys_of Long) note_keys_too D each.0,
+    let edges : List (ℕ × ℕ) = flat_map edges_said (said.tables_at (codes "mark") D) in
+    let shorts : List (ℕ × ℕ) = map short.edge_in (said.tables_at (codes "mark") D) in
+    none_in (long_checks D) (
+      known_too [] note_keys long_note_keys note_keys_too D each.0,
       (
         each.1.0,
         (
@@ -220,8 +257,8 @@ short_too D none =
                 (
                   ap (said_of (array_faults 0 (Some 64) (call_faults D) (codes "call"))) no_calls,
                   (
-                    ap (λ (fs : List Fault). repeated_edges fs D) marks
-                        ∙ sym (ap (λ (fs : List Fault). repeated_edges fs D) each.1.1.1.1.0) ∙ each.1.1.1.1.1.1.1.0,
+                    repeated_where edges (long_marks_faults D) marks ∙ ap (said.edge_faults []) (short_edges D each.1.1.1.1.0)
+                        ∙ sym (repeated_where shorts (short.marks_faults D) each.1.1.1.1.0) ∙ each.1.1.1.1.1.1.1.0,
                     (each.1.1.1.1.1.1.1.1.0, tt),
                   ),
                 ),
@@ -238,7 +275,7 @@ long_too Short D none = short_too D none
 long_too Long D none = none
 
 -- and their marks hold
-pub marks_hold_of : (read : NotesRead) (D : Members) → marks_faults read D ≡ []
+pub marks_hold_of : (read : NotesRead) (D : Members) → marks_of read D ≡ []
     → Each (HoldsMark D) 0 (said.tables_at (codes "mark") D)
 marks_hold_of Short D none = marks_hold D (marks_too D none)
 marks_hold_of Long D none = marks_hold D none
@@ -264,3 +301,15 @@ pub load_stands : (load_cards : Bool)
     → StandsFor ((codes "none", false) ∷ (codes "any", true) ∷ []) (string (said.load_text_of load_cards)) load_cards
 load_stands false = (codes "none", refl, (0, omega arith, refl))
 load_stands true = (codes "any", refl, (1, omega arith, refl))
+
+-- their edges are those that the tables say
+pub edges_are : (read : NotesRead) (D : Members) → marks_of read D ≡ []
+    → flat_map edges_said (said.tables_at (codes "mark") D) ≡ edges_of read D
+edges_are Short D none = short_edges D none
+edges_are Long D none = refl
+
+-- and the parts of their faults are these
+pub parts_are : (read : NotesRead) (D : Members)
+    → in_turn (said.notes_checks (keys_of read) (marks_of read D) (calls_of read D) (edges_of read D) D) ≡ faults_of read D
+parts_are Short D = refl
+parts_are Long D = refl

@@ -13,14 +13,13 @@ use Rattle.base_notes.specs.declared.notes.programmed.Programmed.{Programmed}
 use Rattle.base_notes.specs.Allowed.{AreSound, HaveOwnExits, HaveOwnLocations, IsEarlier, Listed, StandInEarlier, is_same_call}
 use Rattle.base_notes.specs.Edges.{StandOnce}
 use Rattle.base_notes.specs.Marks.{edges_of}
-use Rattle.read_toml.specs.declared.notes.read.NotesRead.TheVariants.{Long}
 use Rattle.read_toml.specs.Calls.{IsCall, Opening, call_faults, is_opened, is_opening, opening_in, opening_said}
 use Rattle.read_toml.specs.Calls.{openings_in, openings_said}
 use Rattle.read_toml.specs.Document.{Fault, two_marks, two_lists, element_faults, elements_faults, locations_at}
 use Rattle.read_toml.specs.Document.{array_faults, tables}
 use Rattle.read_toml.specs.Elements.{Each, HoldsList}
 use Rattle.read_toml.specs.LongMarks.{IsMark, StandsIn, edges_said, long_mark_faults, names_in}
-use Rattle.read_toml.specs.Notes.{long_notes_faults, marks_faults, notes_checks, repeated_edges}
+use Rattle.read_toml.specs.LongNotes.{calls_faults, long_marks_faults, long_note_keys, long_notes_faults}
 use Rattle.read_toml.specs.NotesDocument as said
 use Rattle.read_toml.proofs.Elements.{array_parts, found_items, said_length, tables_few, tables_hold}
 use Rattle.read_toml.proofs.Faultless.{LocationAt, each_none, said_of}
@@ -265,14 +264,21 @@ new_from D earlier place (fields ∷ tables) (call ∷ calls) all here each are 
     )
 
 -- where the marks have a fault, edges that are there twice aren't looked for
-pub repeated_none : (D : Members) (faults : List Fault) → (faults ≡ [] → ⊥) → repeated_edges faults D ≡ []
-repeated_none D [] some = absurd (some refl)
-repeated_none D (one ∷ faults) some = refl
+pub repeated_none : (edges : List (ℕ × ℕ)) (faults : List Fault) → (faults ≡ [] → ⊥)
+    → said.repeated_edges faults edges ≡ []
+repeated_none edges [] some = absurd (some refl)
+repeated_none edges (one ∷ faults) some = refl
 
--- where the marks have no other fault, their edges have none
-pub repeated_where : (D : Members) (faults : List Fault) → faults ≡ [] → repeated_edges faults D ≡ []
-    → said.edge_faults [] (flat_map edges_said (said.tables_at (codes "mark") D)) ≡ []
-repeated_where D faults none fine = sym (ap (λ (fs : List Fault). repeated_edges fs D) none) ∙ fine
+-- where the marks have no other fault, they are
+pub repeated_where : (edges : List (ℕ × ℕ)) (faults : List Fault) → faults ≡ []
+    → said.repeated_edges faults edges ≡ said.edge_faults [] edges
+repeated_where edges faults none = ap (λ (fs : List Fault). said.repeated_edges fs edges) none
+
+-- the checks of long notes
+abbrev pub long_checks : Members → List (List Fault)
+long_checks D =
+    said.notes_checks long_note_keys (long_marks_faults D) (calls_faults D)
+    (flat_map edges_said (said.tables_at (codes "mark") D)) D
 
 -- notes that a document without a fault says
 pub sound_of : (D : Members) (programmed : Programmed) (load_cards : Bool) (marks : List Mark) (lists : List Listed)
@@ -287,7 +293,7 @@ pub sound_of : (D : Members) (programmed : Programmed) (load_cards : Bool) (mark
       calls = calls;
     })
 sound_of D programmed load_cards marks lists calls none has_marks has_lists has_calls =
-    let each = each_none (notes_checks Long D) none in
+    let each = each_none (long_checks D) none in
     let marks_fine = each.1.1.1.1.0 in
     let lists_none = each.1.1.1.1.1.0 in
     let calls_fine = each.1.1.1.1.1.1.0 in
@@ -304,7 +310,8 @@ sound_of D programmed load_cards marks lists calls none has_marks has_lists has_
       );
       own_edges = own_edges [] (flat_map edges_of marks) (ap (said.edge_faults [])
           (sym (edges_same D 0 (said.tables_at (codes "mark") D) marks has_marks))
-          ∙ repeated_where D (marks_faults Long D) marks_fine each.1.1.1.1.1.1.1.0);
+          ∙ sym (repeated_where (flat_map edges_said (said.tables_at (codes "mark") D)) (long_marks_faults D) marks_fine)
+          ∙ each.1.1.1.1.1.1.1.0);
       nested = nested D 0 (said.tables_at (codes "mark") D) marks has_marks;
       own_locations = own_locations [] lists (ap (said.location_faults [])
           (sym (places_same 0 (said.tables_at (codes "list") D) lists places has_lists)) ∙ each.1.1.1.1.1.1.1.1.0);

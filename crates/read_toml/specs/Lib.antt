@@ -3,11 +3,13 @@ pub mod Calls
 pub mod Complaint
 pub mod Document
 pub mod Elements
+pub mod Kinds
 pub mod LongMarks
-pub mod Notes
+pub mod LongNotes
 pub mod NotesDocument
 pub mod Opened
 pub mod Refused
 pub mod Says
+pub mod ShortNotes
 pub mod TimesDocument
 pub mod Value

@@ -1,16 +1,16 @@
 -- What short and long notes share as documents: switches, lists with their patterns, and arrays of
 -- tables, each of which says a value.
 use Rattle.std.specs.Prelude.{◌≡◌, ℕ, ◌+◌, ◌==◌, Bool, true, false, if◌then◌else◌}
-use Rattle.std.specs.Prelude.{List, [], ◌∷◌, ◌++◌, codes, Some}
+use Rattle.std.specs.Prelude.{List, [], ◌∷◌, ◌++◌, map, flat_map, codes, Some, None}
 use Rattle.std.specs.List.{list_any}
 use Rattle.base_notes.specs.declared.notes.pattern.Pattern.{Pattern}
 use Rattle.base_notes.specs.declared.notes.programmed.Programmed.{Programmed}
 use Rattle.base_notes.specs.declared.notes.programmed.Programmed.TheVariants.{Stop, Run, Any}
-use Rattle.base_notes.specs.Allowed.{Listed}
+use Rattle.base_notes.specs.Allowed.{AreSound, Listed, Notes}
 use Rattle.base_notes.specs.Edges.{leads}
 use Rattle.read_toml.specs.Document.{Fault, in_turn, two_marks, two_lists, unknown_in, missing_in}
-use Rattle.read_toml.specs.Document.{whole, location, tables, number_at, items_at}
-use Rattle.toml.specs.Data.{Data, table, Items, no_items, item, Members}
+use Rattle.read_toml.specs.Document.{whole, location, locations_at, tables, text, number_at, items_at}
+use Rattle.toml.specs.Data.{Data, string, table, Items, no_items, item, Members, get_member}
 
 abbrev pub text_of : Programmed → List ℕ
 text_of Stop = codes "stop"
@@ -103,3 +103,40 @@ location_faults earlier [] = []
 location_faults earlier (place ∷ places) =
     (if has_location earlier place then two_lists place ∷ [] else [])
     ++ location_faults (earlier ++ place ∷ []) places
+
+-- A fault for each of these edges that an earlier one is, where the marks have no other fault: else
+-- it isn't known which edges they have.
+abbrev pub repeated_edges : List Fault → List (ℕ × ℕ) → List Fault
+repeated_edges [] edges = edge_faults [] edges
+repeated_edges (fault ∷ faults) edges = []
+
+-- a fault for each list whose location an earlier one says, whatever else is wrong with the lists
+abbrev pub repeated_locations : Members → List Fault
+repeated_locations document =
+    location_faults []
+    (flat_map (locations_at (codes "location")) (tables_at (codes "list") document))
+
+-- The faults that each check of notes finds, where these are the keys that they may have, the faults
+-- of their marks, those of their calls, and the edges of the marks.
+abbrev pub notes_checks : List (List ℕ) → List Fault → List Fault → List (ℕ × ℕ) → Members
+    → List (List Fault)
+notes_checks keys marks calls edges document =
+    unknown_in [] keys document
+    ∷ missing_in [] (codes "programmed" ∷ codes "load_cards" ∷ []) document
+    ∷ text (map text_of (Stop ∷ Run ∷ Any ∷ [])) [] (codes "programmed") document
+    ∷ text (map load_text_of (false ∷ true ∷ [])) [] (codes "load_cards") document
+    ∷ marks
+    ∷ tables 0 None list_faults [] (codes "list") document
+    ∷ calls
+    ∷ repeated_edges marks edges
+    ∷ repeated_locations document ∷ []
+
+-- The document says where the notes have the switch, whether load cards are read, and the lists.
+pub record SaysRest (document : Members) (notes : Notes) : Type 0 where
+  pub programmed : get_member (codes "programmed") document
+      ≡ Some (string (text_of notes.programmed))
+  pub load_cards : get_member (codes "load_cards") document
+      ≡ Some (string (load_text_of notes.load_cards))
+  pub lists : AreSaid (λ index fields listed. IsListed fields listed) 0
+      (tables_at (codes "list") document) notes.lists
+  pub sound : AreSound notes

@@ -6,7 +6,7 @@ ghost use Rattle.base_notes.specs.declared.entry.Entry.{Entry};
 ghost use Rattle.base_notes.specs.Allowed.{Notes};
 ghost use Rattle.base_notes.specs.declared.fault.NoteFault.{NoteFault};
 ghost use Rattle.read_toml.specs.AllFaults.{AreAllFaults};
-ghost use Rattle.read_toml.specs.Notes.{IsLongNotes, long_notes_faults};
+ghost use Rattle.read_toml.specs.LongNotes.{IsLongNotes, long_notes_faults};
 ghost use Rattle.read_toml.specs.Refused.{IsDocument, IsRefused};
 ghost use Rattle.read_toml.specs.TimesDocument.{IsTimes, times_faults};
 ghost use Rattle.toml.specs.Data.{Members};

@@ -2,7 +2,9 @@
 
 ghost use Rattle.std.specs.Prelude.{◌≡◌, [], true, false, map, IfOk};
 ghost use Rattle.read_toml.specs.AllFaults.{Adds, AreAllFaults};
-ghost use Rattle.read_toml.specs.Notes as said;
+ghost use Rattle.read_toml.specs.Kinds as kinds;
+ghost use Rattle.read_toml.specs.LongNotes.{long_notes_faults};
+ghost use Rattle.read_toml.specs.Says.{faults_of};
 ghost use Rattle.toml.specs.View.{table_view};
 
 use super::read::{LOAD_CARDS, NotesRead, PROGRAMMED};
@@ -24,7 +26,7 @@ use toml::Table;
 /// [`AllocError`] where there is no memory.
 pub fn long_notes_faults(alloc: Global, bytes: &[u8]) -> Result<Vec<NoteFault>, AllocError>
     ensures { IfOk result (λ faults.
-        AreAllFaults said.long_notes_faults bytes.now faults.items) }
+        AreAllFaults long_notes_faults bytes.now faults.items) }
 {
     let table = match read_document(alloc, bytes) {
         Ok(table) => table,
@@ -38,7 +40,7 @@ pub fn long_notes_faults(alloc: Global, bytes: &[u8]) -> Result<Vec<NoteFault>, 
 
 /// The keys that notes may have.
 fn keys_of(read: NotesRead) -> &'static [&'static str]
-    ensures { map (λ key. key.now) result.now ≡ said.keys_of read }
+    ensures { map (λ key. key.now) result.now ≡ kinds.keys_of read }
 {
     match read {
         NotesRead::Short => &["programmed", "load_cards", "mark", "list"],
@@ -50,7 +52,7 @@ impl Faults {
     /// Adds those of a document that is to be notes.
     pub fn notes(&mut self, alloc: Global, read: NotesRead, table: &Table) -> Result<(), AllocError>
         ensures { IfOk result (λ _. Adds self.old.all.items self.new.all.items
-            (said.faults_of read (table_view table.now))) }
+            (faults_of read (table_view table.now))) }
     {
         let top = Fields {
             alloc,
@@ -75,12 +77,11 @@ impl Faults {
         requires whole { table_view top.now.whole.now ≡ table_view top.now.table.now }
         requires top { top.now.at.now ≡ [] }
         ensures adds { IfOk result (λ _. Adds self.old.all.items self.new.all.items
-            (said.marks_faults read (table_view top.now.table.now))) }
+            (kinds.marks_of read (table_view top.now.table.now))) }
         ensures fine { IfOk result (λ fine. fine ≡ true
-            → said.marks_faults read (table_view top.now.table.now) ≡ []) }
+            → kinds.marks_of read (table_view top.now.table.now) ≡ []) }
         ensures wrong { IfOk result (λ fine. fine ≡ false
-            → said.repeated_edges (said.marks_faults read (table_view top.now.table.now))
-            (table_view top.now.table.now) ≡ []) }
+            → kinds.repeated_of read (table_view top.now.table.now) ≡ []) }
     {
         let before = self.all.len();
         self.mark_tables(top, read)?;
@@ -92,7 +93,7 @@ impl Faults {
         requires whole { table_view top.now.whole.now ≡ table_view top.now.table.now }
         requires top { top.now.at.now ≡ [] }
         ensures { IfOk result (λ _. Adds self.old.all.items self.new.all.items
-            (said.marks_faults read (table_view top.now.table.now))) }
+            (kinds.marks_of read (table_view top.now.table.now))) }
     {
         match read {
             NotesRead::Short => self.tables::<ShortMark>(top, "mark", 0, Some(Mark::MOST_SHORT)),
@@ -105,7 +106,7 @@ impl Faults {
         requires whole { table_view top.now.whole.now ≡ table_view top.now.table.now }
         requires top { top.now.at.now ≡ [] }
         ensures { IfOk result (λ _. Adds self.old.all.items self.new.all.items
-            (said.calls_faults read (table_view top.now.table.now))) }
+            (kinds.calls_of read (table_view top.now.table.now))) }
     {
         match read {
             NotesRead::Short => Ok(()),
@@ -122,13 +123,11 @@ impl Faults {
     ) -> Result<(), AllocError>
         requires whole { table_view top.now.whole.now ≡ table_view top.now.table.now }
         requires fine { fine ≡ true
-            → said.marks_faults read (table_view top.now.table.now) ≡ [] }
+            → kinds.marks_of read (table_view top.now.table.now) ≡ [] }
         requires wrong { fine ≡ false
-            → said.repeated_edges (said.marks_faults read (table_view top.now.table.now))
-            (table_view top.now.table.now) ≡ [] }
+            → kinds.repeated_of read (table_view top.now.table.now) ≡ [] }
         ensures { IfOk result (λ _. Adds self.old.all.items self.new.all.items
-            (said.repeated_edges (said.marks_faults read (table_view top.now.table.now))
-            (table_view top.now.table.now))) }
+            (kinds.repeated_of read (table_view top.now.table.now))) }
     {
         if !fine {
             return Ok(());

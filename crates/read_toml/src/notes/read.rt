@@ -1,9 +1,10 @@
 //! Notes, short ones alone or long ones, read from a document; or the first fault of the document.
 
 ghost use Rattle.std.specs.Prelude.{◌≡◌, [], IfOk, IfErr};
-ghost use Rattle.read_toml.specs.Notes as said;
+ghost use Rattle.read_toml.specs.LongNotes.{IsLongNotes, long_notes_faults};
 ghost use Rattle.read_toml.specs.Refused.{IsDocument, IsFirst, IsRefused};
-ghost use Rattle.read_toml.specs.Says.{AreNoNotesOf, SayNotesOf};
+ghost use Rattle.read_toml.specs.Says.{AreNoNotesOf, IsNotesOf, SayNotesOf, faults_of};
+ghost use Rattle.read_toml.specs.ShortNotes.{IsNotes, notes_faults};
 ghost use Rattle.toml.specs.Data.{Members};
 ghost use Rattle.toml.specs.View.{table_view};
 
@@ -42,8 +43,8 @@ pub enum NotesRead {
 /// one edge; two lists for one location.
 pub fn read_notes(alloc: Global, bytes: &[u8]) -> Result<Notes, NoteFault>
     ensures read { IfOk result (λ notes. (whole : Members) × IsDocument bytes.now whole
-        × said.IsNotes whole notes) }
-    ensures refused { IfErr result (IsRefused said.notes_faults bytes.now) }
+        × IsNotes whole notes) }
+    ensures refused { IfErr result (IsRefused notes_faults bytes.now) }
 {
     read_notes_of(alloc, NotesRead::Short, bytes)
 }
@@ -59,8 +60,8 @@ pub fn read_notes(alloc: Global, bytes: &[u8]) -> Result<Notes, NoteFault>
 /// `to`, `exit`, `back`. An exit is out of range where an earlier call has it on the same edge.
 pub fn read_long_notes(alloc: Global, bytes: &[u8]) -> Result<Notes, NoteFault>
     ensures read { IfOk result (λ notes. (whole : Members) × IsDocument bytes.now whole
-        × said.IsLongNotes whole notes) }
-    ensures refused { IfErr result (IsRefused said.long_notes_faults bytes.now) }
+        × IsLongNotes whole notes) }
+    ensures refused { IfErr result (IsRefused long_notes_faults bytes.now) }
 {
     read_notes_of(alloc, NotesRead::Long, bytes)
 }
@@ -80,8 +81,8 @@ pub fn read_notes_of(alloc: Global, read: NotesRead, bytes: &[u8]) -> Result<Not
 
 /// The notes that a document is, or its first fault.
 fn read_table(alloc: Global, read: NotesRead, table: &Table) -> Result<Notes, NoteFault>
-    ensures said { IfOk result (said.IsNotesOf read (table_view table.now)) }
-    ensures first { IfErr result (IsFirst (said.faults_of read (table_view table.now))) }
+    ensures said { IfOk result (IsNotesOf read (table_view table.now)) }
+    ensures first { IfErr result (IsFirst (faults_of read (table_view table.now))) }
 {
     let mut faults = Faults::new(alloc);
     faults.notes(alloc, read, table)?;
@@ -89,10 +90,10 @@ fn read_table(alloc: Global, read: NotesRead, table: &Table) -> Result<Notes, No
     Ok(notes_in(alloc, table)?)
 }
 
-/// The notes that a document without faults is.
+/// The long notes that a document without faults is.
 fn notes_in(alloc: Global, table: &Table) -> Result<Notes, AllocError>
-    requires { said.long_notes_faults (table_view table.now) ≡ [] }
-    ensures { IfOk result (said.SaysNotes (table_view table.now)) }
+    requires { long_notes_faults (table_view table.now) ≡ [] }
+    ensures { IfOk result (IsLongNotes (table_view table.now)) }
 {
     let top = Fields {
         alloc,

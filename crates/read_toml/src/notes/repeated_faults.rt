@@ -5,7 +5,6 @@ ghost use Rattle.base_notes.specs.Marks.{edges_of as edges_of_mark};
 ghost use Rattle.read_toml.specs.AllFaults.{Adds};
 ghost use Rattle.read_toml.specs.Document as document;
 ghost use Rattle.read_toml.specs.Document.{two_marks, two_lists};
-ghost use Rattle.read_toml.specs.Notes as notes;
 ghost use Rattle.read_toml.specs.NotesDocument as said;
 ghost use Rattle.toml.specs.View.{view, table_view, items_view};
 
@@ -78,7 +77,7 @@ impl Faults {
     /// Adds each list of a document for whose location an earlier one is.
     pub fn repeated_lists(&mut self, top: &Fields<'_>) -> Result<(), AllocError>
         ensures { IfOk result (λ _. Adds self.old.all.items self.new.all.items
-            (notes.repeated_locations (table_view top.now.table.now))) }
+            (said.repeated_locations (table_view top.now.table.now))) }
     {
         let places = places_of(top.alloc, items(top.table, "list"))?;
         self.second_places(top.alloc, &places)?;

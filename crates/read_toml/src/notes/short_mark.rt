@@ -1,6 +1,6 @@
 //! The marks of short notes, checked.
 
-ghost use Rattle.read_toml.specs.Notes as said;
+ghost use Rattle.read_toml.specs.ShortNotes as said;
 
 use crate::document::element::Checked;
 use crate::document::faults::Faults;

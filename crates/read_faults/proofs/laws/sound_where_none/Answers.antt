@@ -1,5 +1,5 @@
 use Rattle.std.specs.Prelude.{codes}
-use Rattle.read_toml.specs.Notes.{long_notes_faults}
+use Rattle.read_toml.specs.LongNotes.{long_notes_faults}
 use Rattle.read_toml.specs.TimesDocument.{times_faults}
 use Rattle.read_faults.proofs.Lines.{all_none, document_none}
 use Rattle.read_faults.proofs.laws.sound_where_none.Goals as goal

@@ -1,5 +1,5 @@
 use Rattle.std.specs.Prelude.{codes}
-use Rattle.read_toml.specs.Notes.{long_notes_faults}
+use Rattle.read_toml.specs.LongNotes.{long_notes_faults}
 use Rattle.read_faults.specs.NamedTexts.{named}
 use Rattle.read_faults.proofs.Lines.{lines_returned}
 use Rattle.read_faults.proofs.lines_of_faults.with_notes.Goals as goal

@@ -2,7 +2,7 @@ use Rattle.read_toml.proofs.NotesThere.{notes_there}
 use Rattle.read_toml.proofs.laws.says_long_notes.Goals as goal
 
 pub returns-clause-right : goal.returns-clause-right
-returns-clause-right c = λ document notes is. is.0
+returns-clause-right c = λ document notes is. is.faultless
 
 pub returns-clause-said : goal.returns-clause-said
-returns-clause-said c = λ document none. let there = notes_there document none in (there.0, (none, there.1))
+returns-clause-said c = notes_there

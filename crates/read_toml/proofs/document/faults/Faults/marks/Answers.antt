@@ -2,7 +2,7 @@
 use Rattle.std.proofs.Common.{arith}
 use Rattle.std.proofs.lemmas.Bool.{eqb-false}
 use Rattle.toml.specs.View.{table_view}
-use Rattle.read_toml.specs.Notes.{marks_faults}
+use Rattle.read_toml.specs.Kinds.{edges_of, marks_of}
 use Rattle.read_toml.proofs.Adding.{some_more}
 use Rattle.read_toml.proofs.Sound.{repeated_none}
 use Rattle.read_toml.proofs.document.faults.Faults.marks.Goals as goal
@@ -10,7 +10,7 @@ use Rattle.read_toml.proofs.document.faults.Faults.marks.Goals as goal
 pub returns-clause-wrong : goal.returns-clause-wrong
 returns-clause-wrong c = λ other.
     let D = table_view c.args.top.now.table.now in
-    repeated_none D (marks_faults c.args.read D) (λ none.
+    repeated_none (edges_of c.args.read D) (marks_of c.args.read D) (λ none.
     some_more _ _ _ (λ same. eqb-false c.len.result c.len-before.result other (omega (
       arith,
       same,
