@@ -5,3 +5,5 @@ pub mod DeckOfLines
 pub mod Lines
 pub mod FirstLoaded
 pub mod InDeck
+pub mod EarlierLines
+pub mod Taking

@@ -20,11 +20,15 @@
 
 mod deck;
 pub mod laws;
+mod reading;
 pub mod spaced;
 
 pub use deck::Deck;
 pub use deck::card::Card as DeckCard;
 pub use deck::fault::DeckFault;
 pub use deck::line::Line as DeckLine;
+pub use deck::line_fault::LineFault;
 pub use deck::lines::{Lines, is_longer};
+pub use deck::loading::Loading;
 pub use deck::read::{deck_of, read_deck};
+pub use reading::{Reading, Taking};

@@ -22,11 +22,13 @@
 #![tactic(auto)]
 
 mod alike;
+mod all_faults;
 mod deck_so_far;
 mod fault_text;
 mod faults_of_deck;
 mod faults_of_inputs;
 mod first_past;
+mod inputs_so_far;
 pub mod laws;
 mod lines_of_faults;
 mod loaded;
