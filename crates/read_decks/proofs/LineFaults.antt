@@ -10,7 +10,7 @@ use Rattle.read_decks.specs.declared.deck.fault.DeckFault.TheVariants.{Card, Twi
 use Rattle.read_decks.specs.declared.deck.line_fault.LineFault.{LineFault}
 use Rattle.read_decks.specs.declared.deck.loading.Loading.{Loading}
 use Rattle.read_decks.specs.declared.deck.loading.Start.{Start}
-use Rattle.read_decks.specs.DeckOfLines.{HoldsLines, deck_rules}
+use Rattle.read_decks.specs.LinesSoFar.{HoldsLines, deck_rules}
 use Rattle.read_decks.specs.DeckText.{Line, comment, start, card, IsLine, IsPastDrum, Given, given_at, given_from, starts}
 use Rattle.read_decks.specs.EarlierLines.{first_start, HasLineFault}
 use Rattle.read_decks.specs.FirstLoaded.{IsFirstLoaded}

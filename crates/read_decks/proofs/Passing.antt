@@ -4,8 +4,8 @@ use Rattle.std.proofs.Common.{inl, append_assoc, length-append}
 use Rattle.std.proofs.lemmas.List.{append-nil}
 use Rattle.std.specs.Prelude.{Option, Some, None, IfSome, Result, Ok, Err, IfOk, IfErr, IsTrue, ◌↔◌}
 use Rattle.std.proofs.Common.{Bool, true, false}
-use Rattle.read_decks.specs.Lines.{lines_of, EachSays, HasFirstFault, HaveFaults}
-use Rattle.read_decks.specs.Taking.{Rules, Passed, GoesFrom, GoesOn}
+use Rattle.read_decks.specs.Lines.{lines_of, EachSays, HasFirstFault}
+use Rattle.read_decks.specs.Taking.{HaveFaults, Rules, Passed, GoesFrom, GoesOn}
 use Rattle.read_decks.proofs.FirstFaults.{say_append}
 
 -- behind these lines all up to those that are left have been taken

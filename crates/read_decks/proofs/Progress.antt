@@ -13,7 +13,8 @@ use Rattle.read_decks.proofs.LineLemmas.{longer_by_bytes}
 use Rattle.read_decks.proofs.Passing.{Whole, whole_of, first_met, say_length}
 use Rattle.read_decks.specs.DeckText.{Line, Say, starts, IsTooLong, IsDeck, LacksStart, IsFaultOfLine, AreSound}
 use Rattle.read_decks.specs.DeckText.{IsFirstFault, IsRefused}
-use Rattle.read_decks.specs.DeckOfLines.{HoldsLines, IsDeckOf, deck_rules}
+use Rattle.read_decks.specs.DeckOfLines.{IsDeckOf}
+use Rattle.read_decks.specs.LinesSoFar.{HoldsLines, deck_rules}
 
 pub few_lines : (text : List ℕ) → ¬ IsTooLong text → length (lines_of text) ≤ 4000
 few_lines text short = elim (cases_lt 4000 (length (lines_of text)))

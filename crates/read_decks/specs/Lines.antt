@@ -41,17 +41,3 @@ pub record HasFirstFault {Line Fault : Type 0} (Says : List ℕ → Line → Typ
   pub said : EachSays Says texts before
   pub sound : AreSound before
   pub first : IsFaultOfLine before (length texts + 1) line fault
-
--- These are the faults of lines behind others: a line with a fault has it, and counts as a comment
--- for the lines after it. Which fault the next line has is given by HasFault.
-abbrev pub HaveFaults : {Line Fault : Type 0} → (comment : Line)
-    → (Says : List ℕ → Line → Type 0) → (AreSound : List Line → Type 0)
-    → (HasFault : List Line → List ℕ → Fault → Type 0) → List Line → List (List ℕ) → List Fault
-    → Type 0
-HaveFaults comment Says AreSound HasFault before [] faults = faults ≡ []
-HaveFaults {Line} {Fault} comment Says AreSound HasFault before (text ∷ texts) faults =
-    ((line : Line) × Says text line × AreSound (before ++ line ∷ [])
-    × HaveFaults comment Says AreSound HasFault (before ++ line ∷ []) texts faults)
-    ⊎ ((first : Fault) × (others : List Fault) × (faults ≡ first ∷ others)
-    × HasFault before text first
-    × HaveFaults comment Says AreSound HasFault (before ++ comment ∷ []) texts others)

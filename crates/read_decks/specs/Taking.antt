@@ -1,6 +1,21 @@
--- What it means that the lines of a text are taken one after the other.
-use Rattle.std.specs.Prelude.{◌≡◌, ℕ, ◌+◌, List, [], ◌∷◌, ◌++◌, length, Option, Some, None}
-use Rattle.read_decks.specs.Lines.{EachSays, HaveFaults}
+-- All faults of a text's lines, and what it means that the lines are taken one after the other.
+use Rattle.std.specs.Prelude.{◌≡◌, ℕ, ◌+◌, ◌⊎◌, List, [], ◌∷◌, ◌++◌, length, Option, Some}
+use Rattle.std.specs.Prelude.{None}
+use Rattle.read_decks.specs.Lines.{EachSays}
+
+-- These are the faults of lines behind others: a line with a fault has it, and counts as a comment
+-- for the lines after it. Which fault the next line has is given by HasFault.
+abbrev pub HaveFaults : {Line Fault : Type 0} → (comment : Line)
+    → (Says : List ℕ → Line → Type 0) → (AreSound : List Line → Type 0)
+    → (HasFault : List Line → List ℕ → Fault → Type 0) → List Line → List (List ℕ) → List Fault
+    → Type 0
+HaveFaults comment Says AreSound HasFault before [] faults = faults ≡ []
+HaveFaults {Line} {Fault} comment Says AreSound HasFault before (text ∷ texts) faults =
+    ((line : Line) × Says text line × AreSound (before ++ line ∷ [])
+    × HaveFaults comment Says AreSound HasFault (before ++ line ∷ []) texts faults)
+    ⊎ ((first : Fault) × (others : List Fault) × (faults ≡ first ∷ others)
+    × HasFault before text first
+    × HaveFaults comment Says AreSound HasFault (before ++ comment ∷ []) texts others)
 
 -- What a line of a text may say, how a comment is said, which lines are sound, which fault the next
 -- one has behind others, and which lines a state holds.

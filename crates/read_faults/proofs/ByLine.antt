@@ -5,7 +5,8 @@ use Rattle.std.proofs.Common.{arith, inl, inr, Option, length-append, append_ass
 use Rattle.std.proofs.lemmas.Bool.{cases_lt}
 use Rattle.std.proofs.lemmas.List.{append-nil}
 use Rattle.std.specs.Prelude.{Any}
-use Rattle.read_decks.specs.Lines.{lines_of, IsLonger, EachSays, HasFirstFault, HaveFaults}
+use Rattle.read_decks.specs.Lines.{lines_of, IsLonger, EachSays, HasFirstFault}
+use Rattle.read_decks.specs.Taking.{HaveFaults}
 use Rattle.read_decks.proofs.FirstFaults.{HasOneFault, say_append}
 use Rattle.read_faults.specs.ByLine.{IsFirstPast, past_limit}
 use Rattle.read_faults.specs.declared.placed_fault.PlacedFault.{PlacedFault}

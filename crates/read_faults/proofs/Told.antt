@@ -2,8 +2,7 @@
 use Rattle.std.proofs.Common.{◌≡◌, ℕ, ◌<◌, List, [], ◌∷◌, ◌++◌, length, refl, ap, sym, subst, arith, inr}
 use Rattle.std.proofs.Common.{Some, None, length-append, append_assoc}
 use Rattle.std.proofs.lemmas.List.{append-nil}
-use Rattle.read_decks.specs.Lines.{HaveFaults}
-use Rattle.read_decks.specs.Taking.{Rules, GoesFrom}
+use Rattle.read_decks.specs.Taking.{HaveFaults, Rules, GoesFrom}
 
 -- the faults of lines behind others
 abbrev pub Have : {State Fault : Type 0} → (rules : Rules State Fault) → List rules.Line → List (List ℕ) → List Fault

@@ -8,7 +8,8 @@ use Rattle.read_decks.specs.declared.deck.fault.DeckFault.TheVariants.{TooLong}
 use Rattle.read_decks.specs.DeckText.{Line, comment, start, IsLine, AreSound}
 use Rattle.read_decks.specs.DeckText.{IsFaultOfLine, IsTooLong}
 use Rattle.read_decks.specs.EarlierLines.{earlier_for}
-use Rattle.read_decks.specs.Lines.{lines_of, HaveFaults}
+use Rattle.read_decks.specs.Lines.{lines_of}
+use Rattle.read_decks.specs.Taking.{HaveFaults}
 use Rattle.read_faults.specs.declared.placed_fault.PlacedFault.{PlacedFault}
 use Rattle.read_faults.specs.declared.slip.Slip.{Slip}
 use Rattle.read_faults.specs.ByLine.{alone, past_limit, IsFirstPast}

@@ -1,7 +1,8 @@
 -- All faults of a text of inputs, with their places.
 use Rattle.std.specs.Prelude.{◌≡◌, ℕ, ◌+◌, ◌<◌, ◌⊎◌, List, [], ◌∷◌, length, slice_get}
 use Rattle.std.specs.Prelude.{Option, Some, None}
-use Rattle.read_decks.specs.Lines.{lines_of, HaveFaults}
+use Rattle.read_decks.specs.Lines.{lines_of}
+use Rattle.read_decks.specs.Taking.{HaveFaults}
 use Rattle.read_replays.specs.declared.fault.InputFault.{InputFault}
 use Rattle.read_replays.specs.declared.fault.InputFault.TheVariants as faults
 use Rattle.read_replays.specs.InputsText.{Line, comment, IsLine, AreSound, Repeats}

@@ -1,6 +1,6 @@
 -- What is held of the lines so far, of a deck and of inputs, and which faults the next line has.
 use Rattle.std.specs.Prelude.{◌≡◌, List, map}
-use Rattle.read_decks.specs.DeckOfLines as of_deck
+use Rattle.read_decks.specs.LinesSoFar as of_deck
 use Rattle.read_decks.specs.DeckText as deck
 use Rattle.read_decks.specs.Taking.{Rules}
 use Rattle.read_decks.specs.declared.deck.fault.DeckFault.{DeckFault}

@@ -1,5 +1,6 @@
 ghost use Rattle.std.specs.Prelude.{◌<◌, ◌^◌, [], length, IfOk};
-ghost use Rattle.read_decks.specs.Lines.{lines_of, HaveFaults};
+ghost use Rattle.read_decks.specs.Lines.{lines_of};
+ghost use Rattle.read_decks.specs.Taking.{HaveFaults};
 
 use read_decks::{Reading, Taking};
 use std::alloc::{AllocError, Global};

@@ -48,17 +48,7 @@ pub settings_kept : (settings : Settings) (lines : List Line) (line : Line) → 
     → switches_in line ≡ None → distributor_in line ≡ None → accumulator_in line ≡ None
     → latch_in line ≡ None → programmed_in line ≡ None → on_overflow_in line ≡ None → HoldSettings settings lines
     → HoldSettings settings (lines ++ line ∷ [])
-settings_kept settings lines line a s d c l p o holds = record {
-  angle = keeps angle_in lines line holds.angle a;
-  switches = keeps switches_in lines line holds.switches s;
-  distributor = keeps distributor_in lines line holds.distributor d;
-  accumulator = keeps accumulator_in lines line holds.accumulator c;
-  latch = keeps latch_in lines line holds.latch l;
-  programmed = keeps programmed_in lines line holds.programmed p;
-  on_overflow = keeps on_overflow_in lines line holds.on_overflow o;
-  on_drum = holds.on_drum;
-  twenty = holds.twenty;
-}
+settings_kept settings lines line a s d c l p o holds = search (keeps, holds.on_drum, holds.twenty)
 
 pub holds_comment : (old : Stating) (lines : List Line) → HoldsLines old lines → HoldsLines old (lines ++ comment ∷ [])
 holds_comment old lines holds =

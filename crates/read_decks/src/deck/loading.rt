@@ -35,7 +35,8 @@ pub struct Loading {
 impl Loading {
     ghost use Rattle.std.specs.Prelude.{[], List, IfErr};
     ghost use Rattle.read_decks.specs.DeckText as text;
-    ghost use Rattle.read_decks.specs.DeckOfLines.{HoldsLines, IsDeckOf, deck_rules};
+    ghost use Rattle.read_decks.specs.DeckOfLines.{IsDeckOf};
+    ghost use Rattle.read_decks.specs.LinesSoFar.{HoldsLines, deck_rules};
     ghost use Rattle.read_decks.specs.Taking.{IsTaken};
 
     /// A deck of which no line has been read.
@@ -113,7 +114,7 @@ impl Loading {
 impl Taking for Loading {
     type Fault = LineFault<DeckFault>;
 
-    ghost use Rattle.read_decks.specs.DeckOfLines.{deck_rules};
+    ghost use Rattle.read_decks.specs.LinesSoFar.{deck_rules};
 
     ghost rules = { deck_rules };
 

@@ -1,7 +1,7 @@
 -- Of deck_of: the first fault that is met is the first of the text; where none is met, there is the
 -- deck, or no line says where to start.
 use Rattle.std.proofs.Common.{[], sym, subst, Some, None}
-use Rattle.read_decks.specs.DeckOfLines.{deck_rules}
+use Rattle.read_decks.specs.LinesSoFar.{deck_rules}
 use Rattle.read_decks.specs.declared.deck.loading.Loading.{Loading}
 use Rattle.read_decks.specs.Lines.{lines_of}
 use Rattle.read_decks.proofs.Passing.{none_by, from_first}
