@@ -3,7 +3,9 @@ pub mod CardLines
 pub mod DeckLaws
 pub mod FaultLaws
 pub mod FirstFaults
+pub mod LineFaults
 pub mod LineLemmas
 pub mod InDeckLaws
+pub mod Passing
 pub mod Progress
 pub mod Puts

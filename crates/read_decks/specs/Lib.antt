@@ -3,5 +3,8 @@ pub mod DeckText
 pub mod ImageOfLines
 pub mod DeckOfLines
 pub mod Lines
+pub mod LinesSoFar
 pub mod FirstLoaded
 pub mod InDeck
+pub mod EarlierLines
+pub mod Taking

@@ -8,8 +8,9 @@ use base_words::{Kind, Location, Word};
 pub mod card;
 pub mod fault;
 pub mod line;
+pub mod line_fault;
 pub mod lines;
-mod loading;
+pub mod loading;
 pub mod read;
 
 /// A word that a deck gives, and the line of the card that gives it.

@@ -6,8 +6,9 @@ use Rattle.std.proofs.lemmas.Bool.{cases_lt}
 use Rattle.std.proofs.lemmas.List.{append-nil}
 use Rattle.std.specs.Prelude.{Any}
 use Rattle.read_decks.specs.Lines.{lines_of, IsLonger, EachSays, HasFirstFault}
+use Rattle.read_decks.specs.Taking.{HaveFaults}
 use Rattle.read_decks.proofs.FirstFaults.{HasOneFault, say_append}
-use Rattle.read_faults.specs.ByLine.{HaveFaults, IsFirstPast, past_limit}
+use Rattle.read_faults.specs.ByLine.{IsFirstPast, past_limit}
 use Rattle.read_faults.specs.declared.placed_fault.PlacedFault.{PlacedFault}
 use Rattle.read_faults.specs.declared.slip.Slip.{Slip}
 use Rattle.read_faults.proofs.Passed.{any_here}

@@ -4,6 +4,7 @@ use Rattle.std.proofs.Common.{inl, inr, Option, Some}
 use Rattle.std.proofs.lemmas.Bool.{cases_lt}
 use Rattle.read_decks.proofs.FaultLaws.{deck_faults}
 use Rattle.read_decks.specs.DeckText as deck
+use Rattle.read_decks.specs.EarlierLines.{earlier_for}
 use Rattle.read_decks.specs.declared.deck.fault.DeckFault.{DeckFault}
 use Rattle.read_replays.proofs.Refusals.{inputs_faults}
 use Rattle.read_replays.specs.declared.fault.InputFault.{InputFault}
@@ -22,7 +23,7 @@ deck_placed_one : (before : List deck.Line) (text : List ℕ) (a b : PlacedFault
 deck_placed_one before text a b p q =
     let fault : a.fault ≡ b.fault =
     deck_faults.one_fault before (length before + 1) text a.fault b.fault p.is q.is in
-    same_placed a b fault (p.line ∙ sym q.line) (p.earlier ∙ ap (of_deck.earlier_for before) fault ∙ sym q.earlier)
+    same_placed a b fault (p.line ∙ sym q.line) (p.earlier ∙ ap (earlier_for before) fault ∙ sym q.earlier)
     (p.slip ∙ ap (of_deck.slip_for text) fault ∙ sym q.slip)
 
 pub deck_one : HasOnePlaced deck.IsLine deck.AreSound deck.IsFaultOfLine of_deck.IsPlaced

@@ -1,5 +1,5 @@
--- All faults of a text that is read line by line, of a deck or of inputs.
-use Rattle.std.specs.Prelude.{◌≡◌, ℕ, ◌+◌, ◌<◌, ◌≤◌, ◌⊎◌, List, [], ◌∷◌, ◌++◌, length, Any}
+-- Where a fault of a text stands, of a deck or of inputs.
+use Rattle.std.specs.Prelude.{◌≡◌, ℕ, ◌+◌, ◌<◌, ◌≤◌, ◌⊎◌, List, ◌∷◌, ◌++◌, length, Any}
 use Rattle.std.specs.Prelude.{Option, Some, None}
 use Rattle.read_decks.specs.Lines.{lines_of}
 use Rattle.read_faults.specs.declared.placed_fault.PlacedFault.{PlacedFault}
@@ -13,20 +13,6 @@ alone fault line = record { fault = fault; line = line; earlier = None; slip = N
 abbrev pub past_limit : {Fault : Type 0} → Fault → ℕ → List ℕ → PlacedFault Fault
 past_limit fault number line =
     record { fault = fault; line = Some number; earlier = None; slip = slip_in_long line }
-
--- These are the faults of lines behind others: a line with a fault has it, and counts as a comment
--- for the lines after it.
-abbrev pub HaveFaults : {Line Fault : Type 0} → (comment : Line)
-    → (IsLine : List ℕ → Line → Type 0) → (AreSound : List Line → Type 0)
-    → (IsPlaced : List Line → List ℕ → PlacedFault Fault → Type 0)
-    → List Line → List (List ℕ) → List (PlacedFault Fault) → Type 0
-HaveFaults comment IsLine AreSound IsPlaced before [] faults = faults ≡ []
-HaveFaults {Line} {Fault} comment IsLine AreSound IsPlaced before (text ∷ texts) faults =
-    ((line : Line) × IsLine text line × AreSound (before ++ line ∷ [])
-    × HaveFaults comment IsLine AreSound IsPlaced (before ++ line ∷ []) texts faults)
-    ⊎ ((first : PlacedFault Fault) × (others : List (PlacedFault Fault))
-    × (faults ≡ first ∷ others) × IsPlaced before text first
-    × HaveFaults comment IsLine AreSound IsPlaced (before ++ comment ∷ []) texts others)
 
 -- This is the number, from 1, of the first line that is past the last one that may be, or longer
 -- than a line may be, and this is that line.

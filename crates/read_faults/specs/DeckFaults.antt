@@ -5,32 +5,15 @@ use Rattle.read_decks.specs.declared.deck.fault.DeckFault.{DeckFault}
 use Rattle.read_decks.specs.declared.deck.fault.DeckFault.TheVariants.{Read, Memory, Card, Twice}
 use Rattle.read_decks.specs.declared.deck.fault.DeckFault.TheVariants.{NoStart, TwoStarts, PastDrum}
 use Rattle.read_decks.specs.declared.deck.fault.DeckFault.TheVariants.{TooLong}
-use Rattle.read_decks.specs.DeckText.{Line, comment, start, card, IsLine, AreSound, card_of}
+use Rattle.read_decks.specs.DeckText.{Line, comment, start, IsLine, AreSound}
 use Rattle.read_decks.specs.DeckText.{IsFaultOfLine, IsTooLong}
+use Rattle.read_decks.specs.EarlierLines.{earlier_for}
 use Rattle.read_decks.specs.Lines.{lines_of}
+use Rattle.read_decks.specs.Taking.{HaveFaults}
 use Rattle.read_faults.specs.declared.placed_fault.PlacedFault.{PlacedFault}
 use Rattle.read_faults.specs.declared.slip.Slip.{Slip}
-use Rattle.read_faults.specs.ByLine.{alone, past_limit, HaveFaults, IsFirstPast}
+use Rattle.read_faults.specs.ByLine.{alone, past_limit, IsFirstPast}
 use Rattle.read_faults.specs.Slip.{slip_in}
-
--- the number of the first line that is a start, the first line having this number
-abbrev pub first_start : ℕ → List Line → Option ℕ
-first_start number [] = None
-first_start number (comment ∷ lines) = first_start (number + 1) lines
-first_start number (start n ∷ lines) = Some number
-first_start number (card n words ∷ lines) = first_start (number + 1) lines
-
--- The earlier line that a fault points at, behind these lines: the one that gives the location, or
--- the first start.
-abbrev pub earlier_for : List Line → DeckFault → Option ℕ
-earlier_for before (Twice location) = card_of before location.number
-earlier_for before (TwoStarts n) = first_start 1 before
-earlier_for before (Card n) = None
-earlier_for before (PastDrum n) = None
-earlier_for before Read = None
-earlier_for before Memory = None
-earlier_for before NoStart = None
-earlier_for before TooLong = None
 
 -- What was done to a line that has this fault: looked for only where it is no line of a deck.
 abbrev pub slip_for : List ℕ → DeckFault → Option Slip

@@ -2,13 +2,14 @@
 use Rattle.std.specs.Prelude.{◌≡◌, ℕ, ◌+◌, ◌<◌, ◌⊎◌, List, [], ◌∷◌, length, slice_get}
 use Rattle.std.specs.Prelude.{Option, Some, None}
 use Rattle.read_decks.specs.Lines.{lines_of}
+use Rattle.read_decks.specs.Taking.{HaveFaults}
 use Rattle.read_replays.specs.declared.fault.InputFault.{InputFault}
 use Rattle.read_replays.specs.declared.fault.InputFault.TheVariants as faults
 use Rattle.read_replays.specs.InputsText.{Line, comment, IsLine, AreSound, Repeats}
 use Rattle.read_replays.specs.InputsText.{IsFaultOfLine, IsTooLong}
 use Rattle.read_faults.specs.declared.placed_fault.PlacedFault.{PlacedFault}
 use Rattle.read_faults.specs.declared.slip.Slip.{Slip}
-use Rattle.read_faults.specs.ByLine.{past_limit, HaveFaults, IsFirstPast}
+use Rattle.read_faults.specs.ByLine.{past_limit, IsFirstPast}
 use Rattle.read_faults.specs.Slip.{slip_in}
 
 -- At this index stands the first of some lines that this line says again.

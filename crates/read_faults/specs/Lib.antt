@@ -1,7 +1,7 @@
 pub mod Alike
 pub mod ByLine
 pub mod DeckFaults
-pub mod DeckSoFar
+pub mod SoFar
 pub mod FaultLines
 pub mod InputFaults
 pub mod NamedTexts

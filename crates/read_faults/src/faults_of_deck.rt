@@ -1,16 +1,14 @@
 //! All faults of a deck's text, line by line.
 
-ghost use Rattle.std.specs.Prelude.{◌↔◌, [], IsTrue, IfOk};
-ghost use Rattle.read_decks.specs.DeckText.{IsTooLong};
-ghost use Rattle.read_decks.specs.Lines.{lines_of};
-ghost use Rattle.read_faults.specs.DeckFaults.{SaysStart, HasStart, HaveDeckFaults};
-ghost use Rattle.read_faults.specs.DeckFaults.{AreDeckFaults};
+ghost use Rattle.std.specs.Prelude.{◌↔◌, IsTrue, IfOk};
+ghost use Rattle.read_faults.specs.DeckFaults.{SaysStart, HasStart, AreDeckFaults};
 
+use crate::all_faults::all_faults;
 use crate::deck_so_far::DeckSoFar;
 use crate::first_past::first_past;
 use crate::placed_fault::PlacedFault;
 use crate::slip::Slip;
-use read_decks::{Deck, DeckFault, DeckLine, Lines};
+use read_decks::{Deck, DeckFault, DeckLine, Lines, Loading};
 use std::alloc::{AllocError, Global};
 
 /// All faults of a deck's text, in the order of their lines: of each line that has one the fault
@@ -34,7 +32,8 @@ pub fn deck_faults(alloc: Global, text: &[u8]) -> Result<Vec<PlacedFault<DeckFau
         })?;
         return Ok(faults);
     }
-    let mut faults = line_faults(alloc, text)?;
+    let loading = Loading::new(alloc)?;
+    let mut faults = all_faults(alloc, DeckSoFar { loading }, text)?;
     if !has_start(text) {
         faults.push(PlacedFault {
             fault: DeckFault::NoStart,
@@ -63,21 +62,4 @@ fn has_start(text: &[u8]) -> bool
         }
     }
     false
-}
-
-/// The faults of the lines of a text that isn't too long.
-fn line_faults(alloc: Global, text: &[u8]) -> Result<Vec<PlacedFault<DeckFault>>, AllocError>
-    requires { ¬ IsTooLong text.now }
-    ensures { IfOk result (λ faults. HaveDeckFaults [] (lines_of text.now) faults.items) }
-{
-    let mut so_far = DeckSoFar::new(alloc)?;
-    let mut faults = Vec::new(alloc);
-    let mut number = 0;
-    for line in (Lines { rest: text }) {
-        number += 1;
-        if let Some(placed) = so_far.take(line, number) {
-            faults.push(placed)?;
-        }
-    }
-    Ok(faults)
 }

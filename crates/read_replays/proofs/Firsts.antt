@@ -1,5 +1,6 @@
 -- What the first line says that says anything.
 use Rattle.std.proofs.Common.{◌≡◌, List, [], ◌∷◌, ◌++◌, refl, ap, sym, ◌∙◌, Option, Some, None}
+use Rattle.std.specs.Prelude.{IsSome}
 use Rattle.std.specs.Option.{option_or}
 use Rattle.read_replays.specs.InputsText.{Line, first_said}
 
@@ -30,8 +31,12 @@ pub keeps : {A : Type 0} {slot : Option A} (in_line : Line → Option A) (lines 
     → slot ≡ first_said in_line (lines ++ line ∷ [])
 keeps in_line lines line held none = held ∙ sym (said_kept in_line lines line none)
 
--- an empty slot is filled with what the line says
+-- a slot that no line has filled is filled with what the line says
 pub fills : {A : Type 0} {slot : Option A} (in_line : Line → Option A) (lines : List Line) (line : Line) (value : A)
-    → slot ≡ first_said in_line lines → slot ≡ None
+    → slot ≡ first_said in_line lines → ¬ IsSome (first_said in_line lines)
     → in_line line ≡ Some value → Some value ≡ first_said in_line (lines ++ line ∷ [])
-fills in_line lines line value held empty says = sym (said_now in_line lines line (sym held ∙ empty) ∙ says)
+fills {A} in_line lines line value held once says = sym (said_now in_line lines line (none_of (first_said in_line lines) once) ∙ says)
+  where
+    none_of : (one : Option A) → ¬ IsSome one → one ≡ None
+    none_of None not = refl
+    none_of (Some said) not = absurd (not refl)

@@ -1,28 +1,27 @@
 -- What one line more gives.
-use Rattle.std.proofs.Common.{◌≡◌, ℕ, List, [], ◌∷◌, ◌++◌, map, refl, ap, sym, ◌∙◌, subst, None}
+use Rattle.std.proofs.Common.{◌≡◌, ℕ, ◌+◌, List, [], ◌∷◌, ◌++◌, length, map, refl, ap, sym, ◌∙◌, subst, Some, None}
 use Rattle.std.proofs.lemmas.Grind.{flat_map-append}
 use Rattle.std.proofs.lemmas.List.{append-nil, map-append}
-use Rattle.std.specs.Prelude.{Result, Ok, Err, OnOk, flat_map}
+use Rattle.std.specs.Prelude.{flat_map}
+use Rattle.read_decks.specs.Taking.{IsNext}
 use Rattle.base_words.specs.declared.word.Word.{Word}
 use Rattle.machine_steps.specs.declared.card.Card.{Card}
 use Rattle.read_replays.specs.declared.drum_words.DrumWords.{DrumWords}
+use Rattle.read_replays.specs.declared.fault.InputFault.{InputFault}
 use Rattle.read_replays.specs.declared.setting.Setting.{Setting}
 use Rattle.read_replays.specs.declared.setting.Setting.TheVariants.{Angle, Switches, Distributor, Accumulator, Latch}
 use Rattle.read_replays.specs.declared.setting.Setting.TheVariants.{Programmed, OnOverflow}
 use Rattle.read_replays.specs.declared.settings.Settings.{Settings}
 use Rattle.read_replays.specs.declared.stating.Stating.{Stating}
-use Rattle.read_replays.specs.InputsOfLines.{HoldSettings, HoldWords, HoldsLines}
+use Rattle.read_replays.specs.InputsOfLines.{HoldSettings, HoldWords, HoldsLines, input_rules}
 use Rattle.read_replays.specs.Inputs.{read_card}
-use Rattle.read_replays.specs.InputsText.{Line, comment, words, card, wait, IsPastDrum, Repeats, angle_in, switches_in}
+use Rattle.read_replays.specs.InputsText.{Line, IsLine, IsFaultOfLine, comment, words, card, wait, IsPastDrum, Repeats}
+use Rattle.read_replays.specs.InputsText.{angle_in, switches_in}
 use Rattle.read_replays.specs.InputsText.{distributor_in, accumulator_in, latch_in, programmed_in, on_overflow_in}
 use Rattle.read_replays.specs.InputsText.{given_by, given_in, card_by, cards_in, wait_by, waits_in, placed}
 use Rattle.read_replays.specs.Said.{stated}
 use Rattle.read_replays.proofs.Firsts.{keeps}
 use Rattle.read_replays.proofs.Sounds.{sound_more}
-
-pub on_ok_too : {A E P Q : Type 0} (result : Result A E) → (P → Q) → OnOk result P → OnOk result Q
-on_ok_too (Ok done) step p = step p
-on_ok_too (Err fault) step p = tt
 
 pub flat_map-push : {A : Type 0} (f : Line → List A) (lines : List Line) (line : Line)
     → flat_map f (lines ++ line ∷ []) ≡ flat_map f lines ++ f line
@@ -49,17 +48,7 @@ pub settings_kept : (settings : Settings) (lines : List Line) (line : Line) → 
     → switches_in line ≡ None → distributor_in line ≡ None → accumulator_in line ≡ None
     → latch_in line ≡ None → programmed_in line ≡ None → on_overflow_in line ≡ None → HoldSettings settings lines
     → HoldSettings settings (lines ++ line ∷ [])
-settings_kept settings lines line a s d c l p o holds = record {
-  angle = keeps angle_in lines line holds.angle a;
-  switches = keeps switches_in lines line holds.switches s;
-  distributor = keeps distributor_in lines line holds.distributor d;
-  accumulator = keeps accumulator_in lines line holds.accumulator c;
-  latch = keeps latch_in lines line holds.latch l;
-  programmed = keeps programmed_in lines line holds.programmed p;
-  on_overflow = keeps on_overflow_in lines line holds.on_overflow o;
-  on_drum = holds.on_drum;
-  twenty = holds.twenty;
-}
+settings_kept settings lines line a s d c l p o holds = search (keeps, holds.on_drum, holds.twenty)
 
 pub holds_comment : (old : Stating) (lines : List Line) → HoldsLines old lines → HoldsLines old (lines ++ comment ∷ [])
 holds_comment old lines holds =
@@ -69,14 +58,24 @@ holds_comment old lines holds =
     (holds.cards ∙ sym (append-nil (cards_in lines))) (holds.waits ∙ sym (append-nil (waits_in lines)))
     (λ past. past) (λ again. again)
 
+pub is_next : (new : Stating) (lines : List Line) (bytes : List ℕ) (line : Line) → IsLine bytes line
+    → HoldsLines new (lines ++ line ∷ []) → IsNext input_rules new lines bytes None
+is_next new lines bytes line is_line holds = (line, is_line, holds.sound, holds)
+
+-- a line with a fault counts as a comment
+pub has_fault : (state : Stating) (lines : List Line) (bytes : List ℕ) (fault : InputFault)
+    → IsFaultOfLine lines (length lines + 1) bytes fault → HoldsLines state lines
+    → IsNext input_rules state lines bytes (Some fault)
+has_fault state lines bytes fault is holds = (is, holds_comment state lines holds)
+
 -- a setting gives no word, no card and no wait
-record IsPlain (line : Line) : Type 0 where
+pub record IsPlain (line : Line) : Type 0 where
   given : given_by line ≡ []
   cards : card_by line ≡ []
   waits : wait_by line ≡ []
-  on_drum : ¬ IsPastDrum line
+  pub on_drum : ¬ IsPastDrum line
 
-plain : (setting : Setting) → IsPlain (stated setting)
+pub plain : (setting : Setting) → IsPlain (stated setting)
 plain (Angle n) = record { given = refl; cards = refl; waits = refl; on_drum = λ past. past }
 plain (Switches w) = record { given = refl; cards = refl; waits = refl; on_drum = λ past. past }
 plain (Distributor w) = record { given = refl; cards = refl; waits = refl; on_drum = λ past. past }

@@ -1,14 +1,17 @@
 -- What is held by inputs of which some lines have been taken.
-use Rattle.std.specs.Prelude.{◌≡◌, ℕ, ◌^◌, ◌<◌, ◌↔◌, List, map, true, false, Any, slice_index_or}
+use Rattle.std.specs.Prelude.{◌≡◌, ℕ, ◌+◌, ◌^◌, ◌<◌, ◌↔◌, List, length, map, true, false, Any, slice_index_or}
 use Rattle.std.specs.Prelude.{unsigned_abs}
+use Rattle.read_decks.specs.Taking.{Rules}
 use Rattle.std.specs.Option.{ForSome}
 use Rattle.base_words.specs.declared.word.Word.{Word}
 use Rattle.read_replays.specs.declared.drum_words.DrumWords.{DrumWords}
+use Rattle.read_replays.specs.declared.fault.InputFault.{InputFault}
 use Rattle.read_replays.specs.declared.setting.Setting.{Setting}
 use Rattle.read_replays.specs.declared.settings.Settings.{Settings}
 use Rattle.read_replays.specs.declared.stating.Stating.{Stating}
 use Rattle.read_replays.specs.Inputs.{given_word, read_card}
-use Rattle.read_replays.specs.InputsText.{Line, IsLine, AreSound, first_said, angle_in, switches_in}
+use Rattle.read_replays.specs.InputsText.{Line, comment, IsLine, AreSound, IsFaultOfLine}
+use Rattle.read_replays.specs.InputsText.{first_said, angle_in, switches_in}
 use Rattle.read_replays.specs.InputsText.{distributor_in, accumulator_in, latch_in, programmed_in}
 use Rattle.read_replays.specs.InputsText.{on_overflow_in, given_in, cards_in, waits_in}
 use Rattle.read_replays.specs.Said.{stated}
@@ -42,3 +45,14 @@ pub record HoldsLines (stating : Stating) (lines : List Line) : Type 0 where
   pub cards : map read_card stating.cards.items ≡ cards_in lines
   pub waits : stating.waits.items ≡ waits_in lines
   pub sound : AreSound lines
+
+-- how the lines of inputs are read
+abbrev pub input_rules : Rules Stating InputFault
+input_rules = record {
+  Line = Line;
+  comment = comment;
+  Says = IsLine;
+  AreSound = AreSound;
+  HasFault = λ before text fault. IsFaultOfLine before (length before + 1) text fault;
+  Holds = HoldsLines;
+}

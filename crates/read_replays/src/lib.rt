@@ -4,14 +4,14 @@
 //! Code, from the bottom up. `key` is what stands behind a line's first word, `digits` has the
 //! numbers that a line is written with, and `accumulator` the accumulator's. `setting` is what a
 //! line states once at most, and `line` reads one line. `settings` and `drum_words` keep what was
-//! stated. `stating` is inputs of which some lines were taken. `read` has `read_inputs`; `inputs`
-//! is what it gives, and `fault` why a text is no inputs.
+//! stated. `stating` is inputs of which some lines were taken, by `Reading` of `read_decks`. `read`
+//! has `read_inputs`; `inputs` is what it gives, and `fault` why a text is no inputs.
 //!
 //! Definitions, in the order to read them: `InputsText` says which texts are inputs and why others
 //! are refused (over the first fault of `read_decks`'s lines), and `Inputs` what inputs state, as
 //! they are held. `Said` and `InputsOfLines` are what the code's other types mean by these.
 //!
-//! Proofs. `Progress` is on how the lines are read, one by one. `Refusals` shows that a text has
+//! Proofs. `Progress` is on what comes of all lines. `Refusals` shows that a text has
 //! one fault, `Repeated` when a line says again what others say, and `Sounds` what one sound line
 //! more is; `read_faults` uses these too.
 #![tactic(auto)]

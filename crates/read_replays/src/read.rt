@@ -3,13 +3,13 @@
 ghost use Rattle.std.specs.Prelude.{◌≡◌, ◌≢◌, ◌+◌, ◌^◌, ◌≤◌, ◌↔◌, ◌⊎◌, List, IsErrOf, IfOk, IfErr};
 ghost use Rattle.std.specs.Prelude.{IfSome};
 ghost use Rattle.read_replays.specs.Inputs.{AreInputsOf};
-ghost use Rattle.read_replays.specs.InputsText.{Line, IsTooLong, AreInputs, IsRefused};
+ghost use Rattle.read_replays.specs.InputsText.{Line, AreInputs, IsRefused};
 
 use crate::fault::InputFault;
 use crate::inputs::Inputs;
 use crate::stating::Stating;
 use base_devices::{Input, WholeError, read_whole};
-use read_decks::{Lines, is_longer};
+use read_decks::{Reading, is_longer};
 use std::alloc::Global;
 
 /// Reads the inputs of a replay. The whole text is read first, 804,001 bytes at most. A text of as
@@ -67,25 +67,12 @@ pub fn inputs_of(alloc: Global, text: &[u8]) -> Result<Inputs, InputFault>
         → IsRefused text.now fault) }
     ensures read { ¬ IsErrOf result InputFault.Read }
 {
-    if is_longer(text, usize::from(Inputs::LINES), Inputs::LINE) {
+    if is_longer(text, Inputs::LINES as usize, Inputs::LINE) {
         return Err(InputFault::TooLong);
     }
-    read_lines(alloc, text)
-}
-
-/// The inputs of a text that isn't too long.
-fn read_lines(alloc: Global, text: &[u8]) -> Result<Inputs, InputFault>
-    requires short { ¬ IsTooLong text.now }
-    ensures ok { IfOk result (λ inputs.
-        (lines : List Line) × AreInputs text.now lines × AreInputsOf inputs lines) }
-    ensures err { IfErr result (λ fault. fault ≢ InputFault.Memory → IsRefused text.now fault) }
-    ensures read { ¬ IsErrOf result InputFault.Read }
-{
-    let mut stating = Stating::new(alloc)?;
-    let mut number = 0;
-    for line in (Lines { rest: text }) {
-        number += 1;
-        stating.take(line, number)?;
+    let mut reading = Reading::new(Stating::new(alloc)?, text);
+    match reading.next_fault()? {
+        Some(fault) => Err(fault),
+        None => Ok(reading.taking.finish()),
     }
-    Ok(stating.finish())
 }

@@ -1,9 +1,8 @@
-ghost use Rattle.std.specs.Prelude.{◌≡◌, List, [], ◌∷◌, ◌++◌, OnOk, OnErr, IsSome, IfErr};
+ghost use Rattle.std.specs.Prelude.{List, [], ◌∷◌, ◌++◌, ◌↔◌, IsTrue};
 ghost use Rattle.read_replays.specs.InputsOfLines.{CanBeStated, HoldSettings};
 ghost use Rattle.read_replays.specs.InputsText.{Line, Repeats};
 ghost use Rattle.read_replays.specs.Said.{stated};
 
-use crate::fault::InputFault;
 use crate::setting::Setting;
 use base_words::Word;
 
@@ -17,20 +16,6 @@ pub struct Settings {
     pub latch: Option<bool>,
     pub programmed: Option<bool>,
     pub on_overflow: Option<bool>,
-}
-
-/// Fills a slot that is empty; else Repeated.
-fn fill<T: Copy>(slot: &mut Option<T>, value: T, line: u16) -> Result<(), InputFault>
-    ensures empty { OnOk result (slot.old ≡ None) }
-    ensures filled { OnOk result (slot.new ≡ Some value) }
-    ensures full { OnErr result (IsSome slot.old) }
-    ensures fault { IfErr result (λ fault. fault ≡ InputFault.Repeated line) }
-{
-    if slot.is_some() {
-        return Err(InputFault::Repeated(line));
-    }
-    *slot = Some(value);
-    Ok(())
 }
 
 impl Settings {
@@ -49,24 +34,57 @@ impl Settings {
         }
     }
 
-    /// Takes the setting of the line of this number.
-    pub fn take(&mut self, setting: Setting, line: u16) -> Result<(), InputFault>
-        requires { CanBeStated setting }
-        ensures ok { OnOk result ((lines : List Line) → HoldSettings self.old lines
-            → HoldSettings self.new (lines ++ stated setting ∷ [])
-            × (¬ Repeats lines (stated setting))) }
-        ensures err { OnErr result ((lines : List Line) → HoldSettings self.old lines
-            → Repeats lines (stated setting)) }
-        ensures fault { IfErr result (λ fault. fault ≡ InputFault.Repeated line) }
+    /// Whether a line has stated the same thing, whatever its value.
+    pub fn has(&self, setting: &Setting) -> bool
+        ensures { (lines : List Line) → HoldSettings self.now lines
+            → IsTrue result ↔ Repeats lines (stated setting.now) }
     {
         match setting {
-            Setting::Angle(angle) => fill(&mut self.angle, angle, line),
-            Setting::Switches(word) => fill(&mut self.switches, word, line),
-            Setting::Distributor(word) => fill(&mut self.distributor, word, line),
-            Setting::Accumulator(number) => fill(&mut self.accumulator, number, line),
-            Setting::Latch(is_on) => fill(&mut self.latch, is_on, line),
-            Setting::Programmed(stops) => fill(&mut self.programmed, stops, line),
-            Setting::OnOverflow(stops) => fill(&mut self.on_overflow, stops, line),
+            Setting::Angle(_) => self.angle.is_some(),
+            Setting::Switches(_) => self.switches.is_some(),
+            Setting::Distributor(_) => self.distributor.is_some(),
+            Setting::Accumulator(_) => self.accumulator.is_some(),
+            Setting::Latch(_) => self.latch.is_some(),
+            Setting::Programmed(_) => self.programmed.is_some(),
+            Setting::OnOverflow(_) => self.on_overflow.is_some(),
+        }
+    }
+
+    /// These settings, and one that no line has stated.
+    pub fn with(self, setting: Setting) -> Settings
+        requires { CanBeStated setting }
+        ensures { (lines : List Line) → HoldSettings self lines → ¬ Repeats lines (stated setting)
+            → HoldSettings result (lines ++ stated setting ∷ []) }
+    {
+        match setting {
+            Setting::Angle(angle) => Settings {
+                angle: Some(angle),
+                ..self
+            },
+            Setting::Switches(word) => Settings {
+                switches: Some(word),
+                ..self
+            },
+            Setting::Distributor(word) => Settings {
+                distributor: Some(word),
+                ..self
+            },
+            Setting::Accumulator(number) => Settings {
+                accumulator: Some(number),
+                ..self
+            },
+            Setting::Latch(is_on) => Settings {
+                latch: Some(is_on),
+                ..self
+            },
+            Setting::Programmed(stops) => Settings {
+                programmed: Some(stops),
+                ..self
+            },
+            Setting::OnOverflow(stops) => Settings {
+                on_overflow: Some(stops),
+                ..self
+            },
         }
     }
 }

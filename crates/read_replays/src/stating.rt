@@ -1,17 +1,20 @@
-ghost use Rattle.std.specs.Prelude.{◌≢◌, ℕ, ◌+◌, List, [], ◌∷◌, ◌++◌, take, OnOk, IfOk, IfErr};
-ghost use Rattle.read_replays.specs.InputsOfLines.{HoldsLines};
+ghost use Rattle.std.specs.Prelude.{ℕ, List, [], take, IfOk};
+ghost use Rattle.read_decks.specs.Taking.{IsTaken};
+ghost use Rattle.read_replays.specs.InputsOfLines.{CanBeStated, HoldsLines, input_rules};
 ghost use Rattle.read_replays.specs.Inputs.{AreInputsOf};
 ghost use Rattle.read_replays.specs.InputsText as text;
+ghost use Rattle.read_replays.specs.Said.{stated};
 
 use crate::drum_words::DrumWords;
 use crate::fault::InputFault;
 use crate::inputs::Inputs;
 use crate::line::Line;
+use crate::setting::Setting;
 use crate::settings::Settings;
 use base_words::{Location, Word};
 use machine_emulator::{Feed, Setup};
 use machine_steps::Card;
-use read_decks::DeckCard;
+use read_decks::{DeckCard, Taking};
 use std::alloc::{AllocError, Global};
 
 /// Inputs of which some lines have been taken.
@@ -36,49 +39,34 @@ impl Stating {
         })
     }
 
-    /// Takes the next line, of this number.
-    pub fn take(&mut self, bytes: &[u8], line: u16) -> Result<(), InputFault>
-        ensures ok { OnOk result ((lines : List text.Line) → HoldsLines self.old lines
-            → (one : text.Line) × text.IsLine bytes.now one
-            × HoldsLines self.new (lines ++ one ∷ [])) }
-        ensures err { IfErr result (λ fault. fault ≢ InputFault.Memory → (lines : List text.Line)
-            → HoldsLines self.old lines → text.IsFaultOfLine lines line bytes.now fault) }
+    /// Takes a setting.
+    fn state(&mut self, setting: Setting, line: u16) -> Option<InputFault>
+        requires { CanBeStated setting }
+        ensures { (bytes : List ℕ) → text.IsLine bytes (stated setting)
+            → IsTaken input_rules self.old self.new bytes line result }
     {
-        match Line::read(bytes) {
-            None => Err(InputFault::Line(line)),
-            Some(Line::Comment) => Ok(()),
-            Some(Line::Setting(setting)) => self.settings.take(setting, line),
-            Some(Line::Words(card)) => self.give(&card, line),
-            Some(Line::Card(card)) => {
-                self.cards.push(card)?;
-                Ok(())
-            }
-            Some(Line::Wait(wait)) => {
-                self.waits.push(wait)?;
-                Ok(())
-            }
+        if self.settings.has(&setting) {
+            return Some(InputFault::Repeated(line));
         }
+        self.settings = self.settings.with(setting);
+        None
     }
 
     /// Takes words for drum locations.
-    fn give(&mut self, card: &DeckCard, line: u16) -> Result<(), InputFault>
-        ensures ok { OnOk result ((lines : List text.Line) → HoldsLines self.old lines
-            → HoldsLines self.new
-            (lines ++ text.words card.now.address (take card.now.len card.now.words) ∷ [])) }
-        ensures err { IfErr result (λ fault. fault ≢ InputFault.Memory
-            → (lines : List text.Line) (bytes : List ℕ) → HoldsLines self.old lines
+    fn give(&mut self, card: &DeckCard, line: u16) -> Result<Option<InputFault>, AllocError>
+        ensures { IfOk result (λ outcome. (bytes : List ℕ)
             → text.IsLine bytes (text.words card.now.address (take card.now.len card.now.words))
-            → text.IsFaultOfLine lines line bytes fault) }
+            → IsTaken input_rules self.old self.new bytes line outcome) }
     {
         let words = card.words();
         if usize::from(card.address) + words.len() > usize::from(Location::DRUM) {
-            return Err(InputFault::PastDrum(line));
+            return Ok(Some(InputFault::PastDrum(line)));
         }
         if self.drum.has_any(card.address, words.len()) {
-            return Err(InputFault::Repeated(line));
+            return Ok(Some(InputFault::Repeated(line)));
         }
         self.drum.give(card.address, words)?;
-        Ok(())
+        Ok(None)
     }
 
     /// The inputs, once all lines have been taken.
@@ -104,6 +92,31 @@ impl Stating {
                 words: drum.words,
             },
             feed: Feed::new(self.cards, self.waits),
+        }
+    }
+}
+
+impl Taking for Stating {
+    type Fault = InputFault;
+
+    ghost use Rattle.read_replays.specs.InputsOfLines.{input_rules};
+
+    ghost rules = { input_rules };
+
+    fn take(&mut self, bytes: &[u8], number: u16) -> Result<Option<InputFault>, AllocError> {
+        match Line::read(bytes) {
+            None => Ok(Some(InputFault::Line(number))),
+            Some(Line::Comment) => Ok(None),
+            Some(Line::Setting(setting)) => Ok(self.state(setting, number)),
+            Some(Line::Words(card)) => self.give(&card, number),
+            Some(Line::Card(card)) => {
+                self.cards.push(card)?;
+                Ok(None)
+            }
+            Some(Line::Wait(wait)) => {
+                self.waits.push(wait)?;
+                Ok(None)
+            }
         }
     }
 }

@@ -2,13 +2,14 @@
 
 ghost use Rattle.std.specs.Prelude.{◌≡◌, ◌≢◌, ◌+◌, ◌^◌, ◌≤◌, ◌↔◌, ◌⊎◌, List, IsErrOf, IfOk, IfErr};
 ghost use Rattle.std.specs.Prelude.{IfSome};
-ghost use Rattle.read_decks.specs.DeckText.{Line, IsTooLong, IsDeck, IsRefused};
+ghost use Rattle.read_decks.specs.DeckText.{Line, IsDeck, IsRefused};
 ghost use Rattle.read_decks.specs.DeckOfLines.{IsDeckOf};
 
 use super::Deck;
 use super::fault::DeckFault;
-use super::lines::{Lines, is_longer};
+use super::lines::is_longer;
 use super::loading::Loading;
+use crate::reading::Reading;
 use base_devices::{Input, WholeError, read_whole};
 use std::alloc::Global;
 
@@ -66,25 +67,12 @@ pub fn deck_of(alloc: Global, text: &[u8]) -> Result<Deck, DeckFault>
     ensures refused { IfErr result (λ fault. fault ≢ DeckFault.Memory → IsRefused text.now fault) }
     ensures read { ¬ IsErrOf result DeckFault.Read }
 {
-    if is_longer(text, usize::from(Deck::LINES), Deck::LINE) {
+    if is_longer(text, Deck::LINES as usize, Deck::LINE) {
         return Err(DeckFault::TooLong);
     }
-    read_lines(alloc, text)
-}
-
-/// The deck of a text that isn't too long.
-fn read_lines(alloc: Global, text: &[u8]) -> Result<Deck, DeckFault>
-    requires short { ¬ IsTooLong text.now }
-    ensures ok { IfOk result (λ deck.
-        (lines : List Line) × IsDeck text.now lines × IsDeckOf deck lines) }
-    ensures err { IfErr result (λ fault. fault ≢ DeckFault.Memory → IsRefused text.now fault) }
-    ensures read { ¬ IsErrOf result DeckFault.Read }
-{
-    let mut loading = Loading::new(alloc)?;
-    let mut number = 0;
-    for line in (Lines { rest: text }) {
-        number += 1;
-        loading.take(line, number)?;
+    let mut reading = Reading::new(Loading::new(alloc)?, text);
+    match reading.next_fault()? {
+        Some(found) => Err(found.fault),
+        None => reading.taking.finish(),
     }
-    loading.finish()
 }

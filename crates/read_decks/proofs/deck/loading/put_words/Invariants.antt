@@ -3,7 +3,7 @@ use Rattle.base_words.specs.declared.word.Word.{Word}
 use Rattle.read_decks.proofs.Puts.{ArePut}
 use Rattle.read_decks.proofs.deck.loading.put_words.Given as goal
 
--- the words so far are put into locations that had none, and the others are as they were
+-- the words so far are put, and the other locations are as they were
 abbrev pub invariant-loop-place : goal.invariant-loop-place
 invariant-loop-place l = record {
   drum : vec_len l.image ≡ 2000;

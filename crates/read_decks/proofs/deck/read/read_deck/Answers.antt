@@ -1,5 +1,9 @@
-use Rattle.std.proofs.Common.{ap, Err}
-use Rattle.read_decks.proofs.Progress.{left_too_long, deck_of_left, refused_of_left}
+use Rattle.std.proofs.Common.{ap, Err, List}
+use Rattle.read_decks.proofs.Progress.{left_too_long}
+use Rattle.read_decks.proofs.Passing.{ok_of_left, err_of_left}
+use Rattle.read_decks.specs.declared.deck.fault.DeckFault.TheVariants.{Read, Memory}
+use Rattle.read_decks.specs.DeckText.{Line, IsDeck, IsRefused}
+use Rattle.read_decks.specs.DeckOfLines.{IsDeckOf}
 use Rattle.read_decks.proofs.deck.read.read_deck.Goals as goal
 
 pub returns-in-Err-TooLong-clause-refused : goal.returns-in-Err-TooLong-clause-refused
@@ -9,10 +13,11 @@ returns-in-Err-TooLong-clause-refused g c not_read not_memory =
 
 pub returns-clause-deck : goal.returns-clause-deck
 returns-clause-deck g c =
-    deck_of_left (g.I.Input.unread c.args.reader.now) c.in-Ok.text.items c.deref.result.now c.deck_of.result
+    ok_of_left (λ bytes deck. (lines : List Line) × IsDeck bytes lines × IsDeckOf deck lines)
+    (g.I.Input.unread c.args.reader.now) c.in-Ok.text.items c.deref.result.now c.deck_of.result
     c.deref.ensures.value c.in-Ok.ensures.all c.deck_of.ensures.deck
 
 pub returns-clause-refused : goal.returns-clause-refused
 returns-clause-refused g c =
-    refused_of_left (g.I.Input.unread c.args.reader.now) c.in-Ok.text.items c.deref.result.now c.deck_of.result
-    c.deref.ensures.value c.in-Ok.ensures.all c.deck_of.ensures.refused
+    err_of_left IsRefused (g.I.Input.unread c.args.reader.now) c.in-Ok.text.items c.deref.result.now
+    c.deck_of.result Read Memory c.deref.ensures.value c.in-Ok.ensures.all c.deck_of.ensures.refused

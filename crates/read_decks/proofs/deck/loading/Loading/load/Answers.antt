@@ -1,71 +1,50 @@
--- Of Loading::load: once the words of the card stand in the image, what is held is what the lines
--- so far and this card say. Else the card goes past the drum, or a location has a word already, and
--- that is the fault of the line.
-use Rattle.std.proofs.Common.{◌≡◌, ℕ, ◌+◌, ◌≤◌, ◌<◌, ◌⊎◌, ◌++◌, ◌∷◌, [], List, length, take, slice_get, Bool, true}
-use Rattle.std.proofs.Common.{cond, not, Some, None, refl, sym, ◌∙◌, ap, arith, subst}
-use Rattle.std.specs.Result.{is_ok}
+-- Of Loading::load: a card that goes past the drum, or one of whose locations has a word already,
+-- has that fault. Once the words of any other stand in the image, what is held is what the lines so
+-- far and this card say.
+use Rattle.std.proofs.Common.{◌≡◌, ℕ, ◌+◌, ◌≤◌, ◌<◌, ◌⊎◌, List, length, take, slice_get, refl, ap, arith, subst, Option, Some, None}
 use Rattle.base_words.specs.declared.word.Word.{Word}
 use Rattle.read_decks.specs.DeckText as text
 use Rattle.read_decks.specs.FirstLoaded.{IsFirstLoaded}
-use Rattle.read_decks.specs.ImageOfLines.{Holds}
-use Rattle.read_decks.proofs.InDeckLaws.{holds_card, twice_fault}
+use Rattle.read_decks.specs.declared.deck.Given.{Given}
+use Rattle.read_decks.proofs.LineFaults.{past_drum, twice, card_next}
 use Rattle.read_decks.proofs.deck.loading.Loading.load.Goals as goal
 
--- src/deck/loading.rt:80:13
-pub returns-then-card-words-clause-err : goal.returns-then-card-words-clause-err
-returns-then-card-words-clause-err c not_memory lines bytes holds is_line = (
-  refl,
-  (
-    text.card c.args.card.now.address (take c.args.card.now.len c.args.card.now.words),
-    is_line,
-    omega (arith, c.if-card-words.true, ap (λ (words : List Word). length words) c.words-words.ensures),
-  ),
-)
+pub returns-then-card-words : goal.returns-then-card-words
+returns-then-card-words c bytes is_line before counted holds =
+    past_drum c.args.self.now before bytes c.args.line
+    (text.card c.args.card.now.address (take c.args.card.now.len c.args.card.now.words)) c.alone.ensures counted is_line
+    (omega (arith, c.if-card-words.true, ap length c.words-words.ensures)) holds
 
--- src/deck/loading.rt:83:13
-pub returns-in-Err-clause-err : goal.returns-in-Err-clause-err
-returns-in-Err-clause-err c not_memory lines bytes holds is_line =
+pub returns-in-Some : goal.returns-in-Some
+returns-in-Some c bytes is_line before counted holds =
     let first = c.args.card.now.address in
     let words : List Word = take c.args.card.now.len c.args.card.now.words in
-    let same : c.words-words.result.now ≡ words = c.words-words.ensures in
-    let within : first + length words ≤ 2000 =
-    omega (arith, c.if-card-words.false, ap (λ (words : List Word). length words) same) in
+    let count : length c.words-words.result.now ≡ length words = ap length c.words-words.ensures in
     let taken =
-    subst (λ (words : List Word). IsFirstLoaded c.args.self.now.image.items first (length words)
-    c.in-Err.location.number) same c.in-Err.ensures.taken in
-    twice_fault c.args.self.now.image.items c.args.self.now.cards.items c.args.self.now.start lines c.args.line bytes
-    first words c.in-Err.location holds is_line within taken
+    subst (λ (image : List (Option Given)). IsFirstLoaded image first (length words) c.in-Some.location.number)
+    c.deref.ensures.value
+    (subst (λ (n : ℕ). IsFirstLoaded c.deref.result.now first n c.in-Some.location.number) count
+    c.in-Some.ensures.found) in
+    let here =
+    subst (λ (image : List (Option Given)). slice_get image c.in-Some.location.number ≡ Some (Some c.in-Some.given))
+    c.deref.ensures.value c.in-Some.ensures.given in
+    twice c.args.self.now before bytes c.args.line first words c.in-Some.location c.in-Some.given counted is_line
+    (omega (arith, c.if-card-words.false, count)) taken here holds
 
--- src/deck/loading.rt:72:5
-pub returns-clause-ok : goal.returns-clause-ok
-returns-clause-ok c lines number holds =
+pub returns : goal.returns
+returns c bytes is_line before counted holds =
     let first = c.args.card.now.address in
     let words : List Word = take c.args.card.now.len c.args.card.now.words in
     let same : c.words-words.result.now ≡ words = c.words-words.ensures in
-    let within : first + length words ≤ 2000 =
-    omega (arith, c.if-card-words.false, ap (λ (words : List Word). length words) same) in
-    let ends : (pushed : Bool) → pushed ≡ true
-    → cond pushed (c.args.self.now.cards.items ++ c.args.line ∷ []) c.args.self.now.cards.items
-    ≡ c.args.self.now.cards.items ++ (1 + length lines) ∷ [] =
-    λ pushed is_true. ap (λ (b : Bool). cond b (c.args.self.now.cards.items ++ c.args.line ∷ [])
-    c.args.self.now.cards.items) is_true ∙ ap (λ (n : ℕ). c.args.self.now.cards.items ++ n ∷ []) number in
-    let ended =
-    c.push.ensures.items ∙ ends (is_ok c.push.result)
-    (c.is_err.ensures.negation ∙ ap (λ (b : Bool). not b) c.if-is_err.false) in
-    let Free : List Word → Type 0 =
-    λ words. (k : ℕ) → k < length words → slice_get c.args.self.now.image.items (first + k) ≡ Some None in
-    let Puts : List Word → ℕ → Type 0 = λ words line. (k : ℕ) (word : Word) → slice_get words k ≡ Some word
-    → slice_get c.put_words.new.image.items (first + k) ≡ Some (Some (record { word = word; line = line })) in
-    let Others : List Word → Type 0 =
-    λ words. (n : ℕ) → (n < first) ⊎ (first + length words ≤ n)
-    → slice_get c.put_words.new.image.items n ≡ slice_get c.args.self.now.image.items n in
-    let free = subst Free same c.in_default.ensures.free in
-    let put =
-    subst (Puts words) number
-    (subst (λ (words : List Word). Puts words c.args.line) same c.in_default.ensures.put) in
-    let others = subst Others same c.in_default.ensures.others in
-    let held =
-    holds_card c.args.self.now.image.items c.put_words.new.image.items c.args.self.now.cards.items
-    c.args.self.now.start lines first words holds within free put others in
-    subst (λ (cards : List ℕ). Holds c.put_words.new.image.items cards c.args.self.now.start
-    (lines ++ text.card first words ∷ [])) (sym ended) held
+    let count : length c.words-words.result.now ≡ length words = ap length same in
+    let free =
+    subst (λ (image : List (Option Given)). (n : ℕ) → first ≤ n → n < first + length c.words-words.result.now
+    → slice_get image n ≡ Some None) c.deref.ensures.value c.in_default.ensures.none in
+    card_next c.args.self.now _ before bytes c.args.line first words refl c.in_ok-push.ensures.items counted is_line
+    (omega (arith, c.if-card-words.false, count)) (λ n low high. free n low (omega (arith, high, count)))
+    (subst (λ (ws : List Word). (k : ℕ) (word : Word) → slice_get ws k ≡ Some word
+    → slice_get c.put_words.new.image.items (first + k) ≡ Some (Some (record { word = word; line = c.args.line }))) same
+    c.put_words.ensures.put)
+    (subst (λ (ws : List Word). (n : ℕ) → (n < first) ⊎ (first + length ws ≤ n)
+    → slice_get c.put_words.new.image.items n ≡ slice_get c.args.self.now.image.items n) same
+    c.put_words.ensures.others) holds

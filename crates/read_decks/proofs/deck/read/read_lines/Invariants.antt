@@ -1,7 +1,0 @@
-use Rattle.read_decks.proofs.Progress.{Progress}
-use Rattle.read_decks.proofs.deck.read.read_lines.Given as goal
-
-abbrev pub invariant-loop-line : goal.invariant-loop-line
-invariant-loop-line l = record {
-  so_far : Progress l.text l.line-iterator.rest.now l.loading l.number;
-}
