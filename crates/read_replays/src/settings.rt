@@ -50,41 +50,21 @@ impl Settings {
         }
     }
 
-    /// These settings, and one that no line has stated.
-    pub fn with(self, setting: Setting) -> Settings
+    /// Takes a setting that no line has stated.
+    pub fn take(&mut self, setting: Setting)
         requires { CanBeStated setting }
-        ensures { (lines : List Line) → HoldSettings self lines → ¬ Repeats lines (stated setting)
-            → HoldSettings result (lines ++ stated setting ∷ []) }
+        ensures { (lines : List Line) → HoldSettings self.old lines
+            → ¬ Repeats lines (stated setting)
+            → HoldSettings self.new (lines ++ stated setting ∷ []) }
     {
         match setting {
-            Setting::Angle(angle) => Settings {
-                angle: Some(angle),
-                ..self
-            },
-            Setting::Switches(word) => Settings {
-                switches: Some(word),
-                ..self
-            },
-            Setting::Distributor(word) => Settings {
-                distributor: Some(word),
-                ..self
-            },
-            Setting::Accumulator(number) => Settings {
-                accumulator: Some(number),
-                ..self
-            },
-            Setting::Latch(is_on) => Settings {
-                latch: Some(is_on),
-                ..self
-            },
-            Setting::Programmed(stops) => Settings {
-                programmed: Some(stops),
-                ..self
-            },
-            Setting::OnOverflow(stops) => Settings {
-                on_overflow: Some(stops),
-                ..self
-            },
+            Setting::Angle(angle) => self.angle = Some(angle),
+            Setting::Switches(word) => self.switches = Some(word),
+            Setting::Distributor(word) => self.distributor = Some(word),
+            Setting::Accumulator(number) => self.accumulator = Some(number),
+            Setting::Latch(is_on) => self.latch = Some(is_on),
+            Setting::Programmed(stops) => self.programmed = Some(stops),
+            Setting::OnOverflow(stops) => self.on_overflow = Some(stops),
         }
     }
 }

@@ -48,7 +48,7 @@ impl Stating {
         if self.settings.has(&setting) {
             return Some(InputFault::Repeated(line));
         }
-        self.settings = self.settings.with(setting);
+        self.settings.take(setting);
         None
     }
 

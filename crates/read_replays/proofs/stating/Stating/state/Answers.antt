@@ -22,5 +22,5 @@ returns c bytes is_line before counted holds =
     let once : ¬ Repeats before (stated c.args.setting) =
     λ again. let is = (c.has.ensures before holds.settings).1 again in cc (is, c.if-has.false) in
     is_next _ before bytes (stated c.args.setting) is_line
-    (holds_setting c.args.self.now _ before c.args.setting holds (c.with-self.ensures before holds.settings once) once refl
+    (holds_setting c.args.self.now _ before c.args.setting holds (c.take.ensures before holds.settings once) once refl
     refl refl)
