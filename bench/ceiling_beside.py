@@ -1,17 +1,15 @@
 """Random programs with marks that stand beside one another on one cycle, that the ceiling is measured
 with: on branches, on entries of loops, twice on a loop, and passed in turn."""
 
-from math import prod
-
 from ceiling_programs import notes_text
 from ceiling_structured import StructuredDeck
 
 KINDS = {
-    "branches": ["branches"],
-    "entries": ["entries"],
-    "twice": ["twice"],
-    "in turn": ["turns"],
-    "mixed": ["branches", "entries", "twice", "turns"],
+    "on branches": ["branches"],
+    "on entries": ["entries"],
+    "twice on a loop": ["twice"],
+    "passed in turn": ["turns"],
+    "of all kinds": ["branches", "entries", "twice", "turns"],
 }
 
 

@@ -36,10 +36,12 @@ pub struct Bracket {
 fn longer(one: Option<InRounds>, other: Option<InRounds>) -> Option<InRounds>
     ensures { (result ≡ one) ⊎ (result ≡ other) }
 {
-    match (one, other) {
-        (Some(first), Some(second)) if second.total() > first.total() => Some(second),
-        (None, second) => second,
-        (first, _) => first,
+    let Some(first) = one else {
+        return other;
+    };
+    match other {
+        Some(second) if second.total() > first.total() => Some(second),
+        _ => Some(first),
     }
 }
 
@@ -51,6 +53,7 @@ fn strung_by(
     rows: &[SiteRow],
     order: &[usize],
     start: usize,
+    most: u128,
 ) -> Result<Option<InRounds>, AllocError>
     ensures { IfOk result (λ made. IfSome made
         (IsInRoundsOf by.now.deck.now by.now.times.now by.now.notes.now)) }
@@ -63,13 +66,7 @@ fn strung_by(
         regions: &found.regions,
         levels: &found.levels,
     };
-    let task = Task {
-        times: by.times,
-        marks,
-        rows,
-        first: start,
-        owed,
-    };
+    let task = Task::new(by.times, marks, rows, start, owed, most);
     let strung = ceiling_plans::find(alloc, task, &found.shares, &mut budget)?;
     by.weigh(alloc, strung.pieces)
 }
@@ -92,7 +89,7 @@ fn found_by(
     if reaches(&found, most) {
         return Ok(found);
     }
-    let strung = strung_by(alloc, by, rows, order, start)?;
+    let strung = strung_by(alloc, by, rows, order, start, most)?;
     Ok(longer(found, strung))
 }
 

@@ -35,7 +35,7 @@ use read_decks::Deck;
 use std::alloc::{AllocError, Global};
 
 /// How many steps the searches take at most.
-pub const SEARCHES: u64 = 100_000_000;
+pub const SEARCHES: u64 = 40_000_000;
 
 /// The prices with the lower total, where there are two.
 fn lower_of(found: Option<Prices>, by_order: Option<Prices>) -> Option<Prices>

@@ -7,7 +7,7 @@ use crate::floats::{float_of, whole_of};
 use std::alloc::AllocError;
 
 /// How often what is lacking is made good at most.
-const ROUNDS: u8 = 12;
+const ROUNDS: u8 = 8;
 
 /// The largest unit that is tried.
 const LARGEST: f64 = 1e12;
@@ -24,7 +24,11 @@ impl Basis {
     /// The unit in which all that the basis comes to is whole; `None` where it is too large.
     fn unit(&self) -> Option<i128> {
         let size = self.determinant.abs().round();
-        if size <= LARGEST { Some(whole_of(size).max(1)) } else { None }
+        if size <= LARGEST {
+            Some(whole_of(size).max(1))
+        } else {
+            None
+        }
     }
 
     /// What a unit of each row is worth, so that no member of the basis brings more than it takes.

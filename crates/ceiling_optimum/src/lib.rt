@@ -8,14 +8,16 @@
 //! `longest` looks for the longest ways at prices, and where there are none for the `cycles` that
 //! don't pay. Ways are `columns`; `basis` has those that are taken, `exact` what they come to in whole
 //! numbers, and `simplex` changes them until none brings more. `raising` raises prices by a first
-//! rule; `search` puts all of that together, `whole` rounds what it comes to, and `shares` tells how
-//! often each way is taken.
+//! rule; `search` puts all of that together, and `whole` rounds what it comes to. `shares` tells how
+//! often each way is taken; `detours` leads to those that no other one comes to, by `ways` from and to
+//! them.
 #![tactic(auto)]
 
 mod basis;
 mod budget;
 mod columns;
 mod cycles;
+mod detours;
 mod exact;
 mod floats;
 mod longest;
@@ -25,18 +27,19 @@ mod raising;
 mod search;
 mod shares;
 mod simplex;
+mod ways;
 mod whole;
 
 pub use budget::Budget;
+use detours::Detours;
 pub use net::{Charge, Link, Net, Rank, Step};
-pub use shares::Share;
-
 use prices::Prices;
-use search::Search;
+use search::{Search, Settled};
+pub use shares::Share;
 use std::alloc::{AllocError, Global};
 
 /// How many of the steps are for whole prices at most, where the least ones aren't whole.
-const WHOLE: u64 = 8_000_000;
+const WHOLE: u64 = 4_000_000;
 
 /// Prices that pay for all, and what they come to.
 #[derive(Drop)]
@@ -62,7 +65,8 @@ pub fn least_prices(
     };
     search.add_path()?;
     let least = search.least(budget)?;
-    let shares = search.simplex.shares(alloc, net)?;
+    let near = least.as_ref().unwrap_or(&first);
+    let shares = shares_of(&search, near, budget)?;
     let (settled, is_least) = match least {
         Some(least) if least.prices.unit == 1 => (Some(least), true),
         Some(least) => {
@@ -78,4 +82,21 @@ pub fn least_prices(
         is_least,
         shares,
     }))
+}
+
+/// How often each way of a search is taken, with detours at these prices.
+fn shares_of(
+    search: &Search<'_>,
+    near: &Settled,
+    budget: &mut Budget,
+) -> Result<Vec<Share>, AllocError> {
+    let (alloc, net) = (search.alloc, search.net);
+    let parts = search.simplex.parts(alloc)?;
+    let mut detours = Detours::of(alloc, net, &near.prices, parts)?;
+    detours.connect(budget)?;
+    let mut shares = Vec::new(alloc);
+    for part in &detours.parts {
+        shares.push(part.share(alloc, net)?)?;
+    }
+    Ok(shares)
 }

@@ -48,19 +48,17 @@ impl<'a> Longest<'a> {
     /// Looks for them at prices.
     pub fn look(&mut self, prices: &Prices, budget: &mut Budget) -> Result<Looked, AllocError> {
         self.begin(prices);
-        if !budget.spend(self.costs.len() as u64) {
-            return Ok(Looked::Spent);
-        }
+        let _ = budget.spend(self.costs.len() as u64);
         for _ in 0..self.ahead.len() {
+            if !budget.spend(self.ahead.len() as u64) {
+                return Ok(Looked::Spent);
+            }
             if !self.sweep(budget) {
                 return Ok(Looked::Settled);
             }
             let cycles = cycles_of(self.alloc, self.net, &self.by)?;
             if !cycles.is_empty() {
                 return Ok(Looked::Cycles(cycles));
-            }
-            if budget.is_spent() {
-                return Ok(Looked::Spent);
             }
         }
         Ok(Looked::Spent)

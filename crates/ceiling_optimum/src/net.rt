@@ -56,6 +56,10 @@ struct Span {
 pub struct Net {
     pub links: Vec<Link>,
     spans: Vec<Span>,
+    /// Of each node its place: nodes of one place do for one another in a walk.
+    at: Vec<usize>,
+    /// How many numbers of places there are.
+    places: usize,
     /// Of each node a link that leads to it, the last one that was added.
     into: Vec<Option<usize>>,
     /// Of each link another one that leads to where it does, added before it.
@@ -73,6 +77,8 @@ impl Net {
         Ok(Net {
             links: Vec::new(alloc),
             spans: Vec::new(alloc),
+            at: Vec::new(alloc),
+            places: 0,
             into: vec![in alloc; None; nodes]?,
             earlier: Vec::new(alloc),
             start: 0,
@@ -81,8 +87,10 @@ impl Net {
         })
     }
 
-    /// Adds the links of the next node.
-    pub fn add_node(&mut self, links: Vec<Link>) -> Result<(), AllocError> {
+    /// Adds the links of the next node, which is at this place.
+    pub fn add_node(&mut self, place: usize, links: Vec<Link>) -> Result<(), AllocError> {
+        self.at.push(place)?;
+        self.places = self.places.max(place.saturating_add(1));
         let first = self.links.len();
         for link in links {
             self.add(link)?;
@@ -105,6 +113,16 @@ impl Net {
         self.earlier.push(before)?;
         self.links.push(link)?;
         Ok(())
+    }
+
+    /// How many numbers of places there are.
+    pub fn places(&self) -> usize {
+        self.places
+    }
+
+    /// The place of a node.
+    pub fn place(&self, node: usize) -> usize {
+        self.at.get(node).copied().unwrap_or(usize::MAX)
     }
 
     /// How many nodes there are.

@@ -19,25 +19,34 @@ pub struct Share {
     pub is_path: bool,
 }
 
+/// The same by the links of the net.
+#[derive(Drop)]
+pub struct Part {
+    pub links: Vec<usize>,
+    pub times: i128,
+    pub has_part: bool,
+    pub is_path: bool,
+}
+
 impl Simplex {
-    /// Those of the basis that there is. Of several paths the one that is taken most often is taken
-    /// once.
-    pub fn shares(&self, alloc: Global, net: &Net) -> Result<Vec<Share>, AllocError> {
+    /// How often the ways of the basis are taken. Of several paths the one that is taken most often
+    /// is taken once.
+    pub fn parts(&self, alloc: Global) -> Result<Vec<Part>, AllocError> {
         let solved = self.basis.shares(&self.columns)?;
         let path = self.main_path(&solved);
-        let mut shares = Vec::new(alloc);
-        for (member, parts) in self.basis.members.iter().zip(&solved.list) {
+        let mut parts = Vec::new(alloc);
+        for (member, taken) in self.basis.members.iter().zip(&solved.list) {
             let Member::Column(number) = *member else {
                 continue;
             };
             if let Some(column) = self.columns.at(number)
-                && *parts > 0
+                && *taken > 0
                 && (!column.is_path || path == Some(number))
             {
-                shares.push(share_of(alloc, net, column, *parts, solved.unit)?)?;
+                parts.push(column.taken(*taken, solved.unit)?)?;
             }
         }
-        Ok(shares)
+        Ok(parts)
     }
 
     /// The path that is taken most often.
@@ -57,29 +66,42 @@ impl Simplex {
     }
 }
 
-/// A column that is taken so many parts of a unit.
-fn share_of(
-    alloc: Global,
-    net: &Net,
-    column: &Column,
-    parts: i128,
-    unit: i128,
-) -> Result<Share, AllocError> {
-    let mut steps = Vec::new(alloc);
-    for number in &column.links {
-        if let Some(link) = net.link(*number)
-            && let Some(step) = link.step
-        {
-            steps.push(step)?;
-        }
+impl Column {
+    /// The column, taken so many parts of a unit.
+    fn taken(&self, parts: i128, unit: i128) -> Result<Part, AllocError> {
+        let parts = parts.max(0).unsigned_abs();
+        let unit = unit.max(1).unsigned_abs().max(1);
+        let times = if self.is_path { 1 } else { parts / unit };
+        Ok(Part {
+            links: self.links.clone()?,
+            times: i128::try_from(times).unwrap_or(i128::MAX),
+            has_part: !self.is_path && parts % unit != 0,
+            is_path: self.is_path,
+        })
     }
-    let parts = parts.max(0).unsigned_abs();
-    let unit = unit.max(1).unsigned_abs().max(1);
-    let times = if column.is_path { 1 } else { parts / unit };
-    Ok(Share {
-        steps,
-        times: i128::try_from(times).unwrap_or(i128::MAX),
-        has_part: !column.is_path && parts % unit != 0,
-        is_path: column.is_path,
-    })
+}
+
+impl Part {
+    /// Whether it is taken at all.
+    pub fn is_taken(&self) -> bool {
+        self.times > 0 || self.has_part
+    }
+
+    /// The share, by the steps that its links stand for.
+    pub fn share(&self, alloc: Global, net: &Net) -> Result<Share, AllocError> {
+        let mut steps = Vec::new(alloc);
+        for number in &self.links {
+            if let Some(link) = net.link(*number)
+                && let Some(step) = link.step
+            {
+                steps.push(step)?;
+            }
+        }
+        Ok(Share {
+            steps,
+            times: self.times,
+            has_part: self.has_part,
+            is_path: self.is_path,
+        })
+    }
 }

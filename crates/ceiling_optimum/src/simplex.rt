@@ -10,6 +10,9 @@ use std::alloc::{AllocError, Global};
 /// How many members are changed at most, for each column and beside.
 const CHANGES: usize = 8;
 
+/// How many steps a change takes for each entry of the basis.
+const STEPS: usize = 10;
+
 /// The columns with a basis of them.
 #[derive(Drop)]
 pub struct Simplex {
@@ -45,7 +48,7 @@ impl Simplex {
             let Some(gain) = self.best(&worths) else {
                 return Ok(Some(worths));
             };
-            let steps = rows.saturating_mul(rows) as u64;
+            let steps = rows.saturating_mul(rows).saturating_mul(STEPS) as u64;
             if !budget.spend(steps) || !self.basis.enter(&self.columns, gain.member)? {
                 return Ok(None);
             }

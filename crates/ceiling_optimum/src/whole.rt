@@ -12,11 +12,7 @@ const HALVES: u8 = 127;
 fn rounded(parts: i128, unit: i128, is_up: bool) -> i128 {
     let size = parts.max(0).unsigned_abs();
     let by = unit.max(1).unsigned_abs().max(1);
-    let whole = if is_up {
-        size.div_ceil(by)
-    } else {
-        size / by
-    };
+    let whole = if is_up { size.div_ceil(by) } else { size / by };
     i128::try_from(whole).unwrap_or(i128::MAX)
 }
 

@@ -23,6 +23,8 @@ struct Merit {
     back: usize,
     /// How far out the edge is.
     out: usize,
+    /// How far out it leads, where walks rather go into loops.
+    onto: usize,
     /// What is lost of what is owed.
     lost: u128,
     edge: usize,
@@ -70,6 +72,7 @@ impl Walking<'_> {
                 leave: Leave::None,
                 back: usize::MAX,
                 out: usize::MAX,
+                onto: usize::MAX,
                 lost: u128::MAX,
                 edge: choice.edge,
             });
@@ -78,11 +81,18 @@ impl Walking<'_> {
         let shut = used_up(self.ground.marks, &after);
         let behind = self.owed.at(self.ground.marks, edge.onto, &after);
         let owed = behind.saturating_add(u128::from(edge.time));
-        let chain = self.ground.loops.chain(choice.kind).len();
+        let loops = self.ground.loops;
+        let chain = loops.chain(choice.kind).len();
+        let around = loops.around(self.ground.places.at(edge.onto)).len();
         Ok(Merit {
             leave,
             back: self.back_from(choice, shut, leave != Leave::None)?,
             out: usize::MAX.saturating_sub(chain),
+            onto: if self.goes_in {
+                usize::MAX.saturating_sub(around)
+            } else {
+                0
+            },
             lost: u128::MAX.saturating_sub(owed),
             edge: choice.edge,
         })
@@ -106,16 +116,12 @@ impl Walking<'_> {
         if is_planned {
             let by_plan = Some(self.stock.used_up);
             let asked = Asked { by_plan, ..asked };
-            let depth = self
-                .back
-                .depth(self.ground, asked, left, &mut self.budget)?;
+            let depth = self.back.depth(self.ground, asked, left, &mut self.budget)?;
             if depth > 0 {
                 return Ok(WITHOUT_PLAN.saturating_sub(depth));
             }
         }
-        let depth = self
-            .back
-            .depth(self.ground, asked, left, &mut self.budget)?;
+        let depth = self.back.depth(self.ground, asked, left, &mut self.budget)?;
         Ok(WITHOUT_PLAN.saturating_mul(2).saturating_sub(depth))
     }
 

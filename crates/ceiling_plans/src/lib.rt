@@ -6,7 +6,7 @@
 //! and kinds of edges that a plan counts passes of; `plan` is how often each kind is taken. `strong`
 //! finds what leads to one another, `opening` chooses the mark at which a loop is opened, and `loops`
 //! has the loops in one another. `owed` tells what is owed by the prices, `stock` what is left of a
-//! plan, and `ways_back` whether a way leads back to where it began. `trail` has the pieces so far;
+//! plan and of a visit's share, which is all of that or an even one (`sharing`), and `ways_back` whether a way leads back to where it began. `trail` has the pieces so far;
 //! `walking` goes on step by step, where `choosing` tells by which edge, and `rounds` takes rounds at
 //! once.
 #![tactic(auto)]
@@ -19,6 +19,7 @@ mod owed;
 mod places;
 mod plan;
 mod rounds;
+mod sharing;
 mod stock;
 mod strong;
 mod trail;
@@ -36,6 +37,7 @@ use marks::Marks;
 pub use owed::Owed;
 use places::Places;
 use plan::Plan;
+use sharing::Sharing;
 use std::alloc::{AllocError, Global};
 use stock::Stock;
 use trail::Trail;
@@ -54,6 +56,29 @@ pub struct Task<'a> {
     pub rows: &'a [SiteRow],
     pub first: usize,
     pub owed: Owed<'a>,
+    /// A walk that takes as long need not be looked for to take longer.
+    pub most: u128,
+}
+
+impl<'a> Task<'a> {
+    /// These together.
+    pub fn new(
+        times: &'a Times,
+        marks: &'a [Mark],
+        rows: &'a [SiteRow],
+        first: usize,
+        owed: Owed<'a>,
+        most: u128,
+    ) -> Task<'a> {
+        Task {
+            times,
+            marks,
+            rows,
+            first,
+            owed,
+            most,
+        }
+    }
 }
 
 /// The pieces of a walk, with the word times that it takes as the search reckons.
@@ -73,51 +98,139 @@ pub fn find(
 ) -> Result<Found, AllocError> {
     let marks = Marks::of(alloc, task.marks)?;
     let places = Places::of(alloc, task.rows)?;
-    let found = strung(alloc, task, &marks, &places, shares, false, budget)?;
-    if !shares.iter().any(|share| share.has_part) {
-        return Ok(found);
+    let way = Way {
+        task,
+        marks: &marks,
+        places: &places,
+        shares,
+    };
+    let mut best = Found {
+        time: 0,
+        pieces: Vec::new(alloc),
+    };
+    for manner in Manner::ALL {
+        let has_parts = shares.iter().any(|share| share.has_part);
+        if best.time < task.most && (has_parts || !manner.is_up) {
+            let other = way.strung(alloc, manner, budget)?;
+            best = if other.time > best.time { other } else { best };
+        }
     }
-    let other = strung(alloc, task, &marks, &places, shares, true, budget)?;
-    Ok(if other.time > found.time { other } else { found })
+    Ok(best)
 }
 
-/// The same with parts of a time rounded down, or up.
-fn strung(
-    alloc: Global,
-    task: Task<'_>,
-    marks: &Marks,
-    places: &Places,
-    shares: &[Share],
+/// How a walk goes by its plan.
+#[derive(Clone, Copy)]
+struct Manner {
+    /// Whether parts of a time are rounded up.
     is_up: bool,
+    /// Whether each visit of a loop gets an even share.
+    is_even: bool,
+    /// Whether it rather goes into a loop than past it.
+    goes_in: bool,
+}
+
+impl Manner {
+    /// All that are tried, one after the other, until a walk takes as long as any.
+    const ALL: [Manner; 8] = [
+        Manner {
+            is_up: false,
+            is_even: false,
+            goes_in: false,
+        },
+        Manner {
+            is_up: false,
+            is_even: true,
+            goes_in: false,
+        },
+        Manner {
+            is_up: false,
+            is_even: false,
+            goes_in: true,
+        },
+        Manner {
+            is_up: false,
+            is_even: true,
+            goes_in: true,
+        },
+        Manner {
+            is_up: true,
+            is_even: false,
+            goes_in: false,
+        },
+        Manner {
+            is_up: true,
+            is_even: true,
+            goes_in: false,
+        },
+        Manner {
+            is_up: true,
+            is_even: false,
+            goes_in: true,
+        },
+        Manner {
+            is_up: true,
+            is_even: true,
+            goes_in: true,
+        },
+    ];
+}
+
+/// What all walks are strung together from.
+#[derive(Clone, Copy)]
+struct Way<'a> {
+    task: Task<'a>,
+    marks: &'a Marks,
+    places: &'a Places,
+    shares: &'a [Share],
+}
+
+impl Way<'_> {
+    /// A walk that goes in this manner.
+    fn strung(
+        self,
+        alloc: Global,
+        manner: Manner,
+        budget: &mut Budget,
+    ) -> Result<Found, AllocError> {
+        let plan = Plan::of(alloc, self.places, self.shares, manner.is_up)?;
+        let loops = Loops::of(alloc, self.places, self.marks, &plan)?;
+        let start = self.places.at(self.task.first);
+        let sharing = if manner.is_even {
+            Some(Sharing::of(alloc, &plan, &loops, self.places, start)?)
+        } else {
+            None
+        };
+        let ground = Ground::new(self.task.rows, self.marks, self.places, &loops);
+        let stock = Stock::of(&plan, sharing)?;
+        go_along(alloc, self.task, ground, manner.goes_in, stock, budget)
+    }
+}
+
+/// The walk that takes what there is.
+fn go_along<'a>(
+    alloc: Global,
+    task: Task<'a>,
+    ground: Ground<'a>,
+    goes_in: bool,
+    stock: Stock,
     budget: &mut Budget,
 ) -> Result<Found, AllocError> {
-    let plan = Plan::of(alloc, places, shares, is_up)?;
-    let loops = Loops::of(alloc, places, marks, &plan)?;
-    let ground = Ground {
-        rows: task.rows,
-        marks,
-        places,
-        loops: &loops,
-    };
-    let number = task
-        .rows
-        .get(task.first)
-        .map_or(0, |row| row.location.number);
+    let row = task.rows.get(task.first);
+    let number = row.map_or(0, |row| row.location.number);
     // One place behind the start the search for it takes longest.
     let angle = (u64::from(number) + 1) % REVOLUTION;
     let laying = Laying::new(alloc, task.times, task.rows);
-    let trail = Trail::new(alloc, laying, places.kinds.len(), angle)?;
+    let trail = Trail::new(alloc, laying, ground.places.kinds.len(), angle)?;
+    let part = budget.part(WALK);
     let mut walking = Walking::new(
-        alloc,
-        ground,
-        task.owed,
-        Stock::of(&plan)?,
-        trail,
-        task.first,
-        budget.part(WALK),
+        alloc, ground, task.owed, goes_in, stock, trail, task.first, part,
     )?;
     walking.go()?;
-    let Walking { trail, budget: left, .. } = walking;
+    let Walking {
+        trail,
+        budget: left,
+        ..
+    } = walking;
     budget.take_back(left);
     Ok(Found {
         time: trail.time(),

@@ -18,11 +18,16 @@ pub struct Loop {
     pub mark: u8,
     /// The kinds in it that are in no loop further in.
     pub own: Vec<usize>,
+    /// The loops right inside of it.
+    pub inner: Vec<usize>,
+    /// The kinds of the loop around it that lead into it.
+    pub enter: Vec<usize>,
 }
 
 /// The loops, the outer ones first.
 #[derive(Drop)]
 pub struct Loops {
+    alloc: Global,
     pub list: Vec<Loop>,
     /// By kind, the loops that it is in, the outermost first.
     pub chains: Vec<Vec<usize>>,
@@ -32,11 +37,11 @@ pub struct Loops {
 
 impl Loops {
     /// Those of the edges between all places.
-    pub fn of(
+    pub fn of<'a>(
         alloc: Global,
-        places: &Places,
-        marks: &Marks,
-        plan: &Plan,
+        places: &'a Places,
+        marks: &'a Marks,
+        plan: &'a Plan,
     ) -> Result<Loops, AllocError> {
         let mut opening = Opening {
             alloc,
@@ -54,6 +59,8 @@ impl Loops {
         }
         let Opening { mut loops, .. } = opening;
         loops.tell_own()?;
+        loops.tell_inner()?;
+        loops.tell_entries(places)?;
         Ok(loops)
     }
 
@@ -68,6 +75,7 @@ impl Loops {
             inside.push(Vec::new(alloc))?;
         }
         Ok(Loops {
+            alloc,
             list: Vec::new(alloc),
             chains,
             inside,
@@ -84,6 +92,41 @@ impl Loops {
             }
         }
         Ok(())
+    }
+
+    /// Tells each loop which loops are right inside of it.
+    fn tell_inner(&mut self) -> Result<(), AllocError> {
+        let mut is_told = vec![in self.alloc; false; self.list.len()]?;
+        for chain in &self.chains {
+            for (outer, inner) in chain.iter().zip(chain.iter().skip(1)) {
+                if let Some(own) = is_told.get_mut(*inner)
+                    && !*own
+                    && let Some(one) = self.list.get_mut(*outer)
+                {
+                    *own = true;
+                    one.inner.push(*inner)?;
+                }
+            }
+        }
+        Ok(())
+    }
+
+    /// Tells each loop which kinds lead into it from the one around it.
+    fn tell_entries(&mut self, places: &Places) -> Result<(), AllocError> {
+        for (number, kind) in places.kinds.iter().enumerate() {
+            if let Some(entered) = self.entered_by(number, kind.onto)
+                && let Some(one) = self.list.get_mut(entered)
+            {
+                one.enter.push(number)?;
+            }
+        }
+        Ok(())
+    }
+
+    /// The loop right inside of a kind's innermost one that the kind leads into.
+    fn entered_by(&self, kind: usize, onto: usize) -> Option<usize> {
+        let depth = self.chain(kind).len();
+        self.around(onto).get(depth).copied()
     }
 
     /// The loops that a kind is in, the outermost first.
@@ -200,6 +243,8 @@ impl Opening<'_> {
         self.loops.list.push(Loop {
             mark,
             own: Vec::new(self.alloc),
+            inner: Vec::new(self.alloc),
+            enter: Vec::new(self.alloc),
         })?;
         Ok(())
     }

@@ -82,11 +82,8 @@ impl Walking<'_> {
             return Ok(());
         }
         let rounds = i128::from(more.rounds);
-        for taken in &more.taken {
-            let is_own = self.ground.loops.home(taken.kind) == Some(number);
-            let times = taken.times.saturating_mul(rounds);
-            self.stock.take(taken.kind, times, is_own);
-        }
+        self.stock
+            .go_round(self.ground.loops, number, &more.taken, rounds);
         for (count, rise) in self.counts.iter_mut().zip(&more.rises) {
             let all = rise.saturating_mul(u32::from(more.rounds));
             *count = count.saturating_add(all);
@@ -94,18 +91,15 @@ impl Walking<'_> {
         let time = more.time.saturating_mul(u128::from(more.rounds));
         self.clock = self.clock.saturating_add(time);
         let before = self.clock.saturating_sub(u128::from(edge.time));
-        self.trail.end_here(before.saturating_add(u128::from(edge.stop)));
+        self.trail
+            .end_here(before.saturating_add(u128::from(edge.stop)));
         self.visits.retain(|visit| visit.pieces <= more.pieces);
         Ok(())
     }
 
     /// The rounds that may be taken at once behind the one that has ended; none, where there are
     /// none.
-    fn more_rounds(
-        &mut self,
-        number: usize,
-        mark: Option<u8>,
-    ) -> Result<Option<More>, AllocError> {
+    fn more_rounds(&mut self, number: usize, mark: Option<u8>) -> Result<Option<More>, AllocError> {
         let Some(place) = self.place_of(number) else {
             return Ok(None);
         };
@@ -115,13 +109,15 @@ impl Walking<'_> {
         if visit.begun != self.begun_of(number) || visit.angle != self.trail.angle {
             return Ok(None);
         }
-        let (pieces, begun) = (visit.pieces, visit.clock);
+        let (pieces, begun, since) = (visit.pieces, visit.clock, visit.step);
         let Some(rises) = self.rises_since(visit)? else {
             return Ok(None);
         };
         let taken = self.trail.taken_since(pieces)?;
         let least = self.rounds_by_counts(&rises, mark);
-        let rounds = least.min(self.rounds_by_plan(number, &taken, mark));
+        let least = least.min(self.rounds_by_plan(number, &taken, mark));
+        let loops = self.ground.loops;
+        let rounds = least.min(self.stock.even_rounds(loops, number, since, &taken));
         let rounds = u16::try_from(rounds.min(60_000)).unwrap_or(0);
         if rounds == 0 {
             return Ok(None);
@@ -153,9 +149,9 @@ impl Walking<'_> {
     fn rounds_by_counts(&self, rises: &[u32], mark: Option<u8>) -> u128 {
         let mut least = u128::MAX;
         let marks = self.ground.marks.list.iter();
-        for (index, ((standing, count), rise)) in
-            (0..u8::MAX).zip(marks.zip(&self.counts).zip(rises))
-        {
+        for (index, ((standing, count), rise)) in (0..u8::MAX).zip(
+            marks.zip(&self.counts).zip(rises),
+        ) {
             if *rise > 0 {
                 let kept = u32::from(mark != Some(index));
                 let left = standing.most.saturating_sub(*count).saturating_sub(kept);
@@ -173,9 +169,7 @@ impl Walking<'_> {
                 Some(kind) => kind.mark == mark,
                 None => false,
             };
-            let rounds = self
-                .stock
-                .rounds(self.ground.loops, number, *one, is_last);
+            let rounds = self.stock.rounds(self.ground.loops, number, *one, is_last);
             least = least.min(rounds);
         }
         least

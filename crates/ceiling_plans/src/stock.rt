@@ -2,6 +2,7 @@
 
 use crate::loops::Loops;
 use crate::plan::Plan;
+use crate::sharing::Sharing;
 use crate::trail::Taken;
 use std::alloc::AllocError;
 
@@ -11,6 +12,8 @@ pub struct Stock {
     pub left: Vec<i128>,
     /// What the visit of a kind's innermost loop may still take.
     share: Vec<i128>,
+    /// What even shares go by; without it a visit may take all that is left.
+    sharing: Option<Sharing>,
     /// How often a kind was used up.
     pub used_up: u32,
 }
@@ -27,9 +30,10 @@ pub enum Leave {
 }
 
 impl Stock {
-    /// All of a plan.
-    pub fn of(plan: &Plan) -> Result<Stock, AllocError> {
+    /// All of a plan, in even shares or not.
+    pub fn of(plan: &Plan, sharing: Option<Sharing>) -> Result<Stock, AllocError> {
         Ok(Stock {
+            sharing,
             left: plan.times.clone()?,
             share: plan.times.clone()?,
             used_up: 0,
@@ -74,6 +78,28 @@ impl Stock {
         left / taken.times.unsigned_abs().max(1)
     }
 
+    /// How many more rounds of a loop even shares allow, of which one began behind a step and has
+    /// taken this.
+    pub fn even_rounds(&self, loops: &Loops, number: usize, since: u32, taken: &[Taken]) -> u128 {
+        match (&self.sharing, loops.list.get(number)) {
+            (Some(sharing), Some(one)) => sharing.rounds(loops, one, since, taken),
+            _ => u128::MAX,
+        }
+    }
+
+    /// Takes what so many rounds of a loop take.
+    pub fn go_round(&mut self, loops: &Loops, number: usize, taken: &[Taken], rounds: i128) {
+        for one in taken {
+            let is_own = loops.home(one.kind) == Some(number);
+            self.take(one.kind, one.times.saturating_mul(rounds), is_own);
+        }
+        if let Some(sharing) = &mut self.sharing
+            && let Some(one) = loops.list.get(number)
+        {
+            sharing.go_round(loops, one, taken, rounds);
+        }
+    }
+
     /// Takes so many of a kind, those of its innermost loop's visit too if it is in that.
     pub fn take(&mut self, kind: usize, times: i128, is_of_visit: bool) {
         if let Some(left) = self.left.get_mut(kind)
@@ -84,6 +110,9 @@ impl Stock {
                 self.used_up = self.used_up.saturating_add(1);
             }
         }
+        if let Some(sharing) = &mut self.sharing {
+            sharing.take(kind, times);
+        }
         if is_of_visit
             && let Some(share) = self.share.get_mut(kind)
             && *share > 0
@@ -92,13 +121,25 @@ impl Stock {
         }
     }
 
-    /// A visit of a loop begins, which may take all that is left.
-    pub fn begin(&mut self, own: &[usize]) {
-        for kind in own {
-            let left = self.left_of(*kind);
-            if let Some(share) = self.share.get_mut(*kind) {
-                *share = left;
+    /// A visit of a loop begins, at a place.
+    pub fn begin(
+        &mut self,
+        loops: &Loops,
+        number: usize,
+        place: usize,
+        step: u32,
+    ) -> Result<(), AllocError> {
+        if let Some(sharing) = &mut self.sharing {
+            return sharing.begin(&mut self.share, loops, number, place, step);
+        }
+        if let Some(one) = loops.list.get(number) {
+            for kind in &one.own {
+                let left = self.left_of(*kind);
+                if let Some(share) = self.share.get_mut(*kind) {
+                    *share = left;
+                }
             }
         }
+        Ok(())
     }
 }

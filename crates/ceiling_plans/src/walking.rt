@@ -21,6 +21,8 @@ pub struct Walking<'a> {
     pub alloc: Global,
     pub ground: Ground<'a>,
     pub owed: Owed<'a>,
+    /// Whether it rather goes into a loop than past it.
+    pub goes_in: bool,
     /// Where it is.
     pub site: usize,
     /// How often each mark was passed.
@@ -44,6 +46,7 @@ impl<'a> Walking<'a> {
         alloc: Global,
         ground: Ground<'a>,
         owed: Owed<'a>,
+        goes_in: bool,
         stock: Stock,
         trail: Trail<'a>,
         site: usize,
@@ -54,6 +57,7 @@ impl<'a> Walking<'a> {
             alloc,
             ground,
             owed,
+            goes_in,
             site,
             counts: vec![in alloc; 0; marks]?,
             clock: 0,
@@ -67,7 +71,7 @@ impl<'a> Walking<'a> {
             budget,
         };
         for number in ground.loops.around(ground.places.at(site)) {
-            walking.begin(*number);
+            walking.begin(*number)?;
         }
         Ok(walking)
     }
@@ -138,7 +142,11 @@ impl<'a> Walking<'a> {
             from: self.site,
             edge: Some(choice.edge),
         };
-        let planned = if self.stock.has(kind) { Some(kind) } else { None };
+        let planned = if self.stock.has(kind) {
+            Some(kind)
+        } else {
+            None
+        };
         if !self.trail.add(step, planned)? {
             return Ok(false);
         }
@@ -155,7 +163,7 @@ impl<'a> Walking<'a> {
         if let Some(number) = opened {
             self.go_round(number, edge)?;
         }
-        self.begin_visits(kind, opened);
+        self.begin_visits(kind, opened)?;
         if let Some(number) = opened {
             self.visit(number)?;
         }
@@ -175,32 +183,39 @@ impl<'a> Walking<'a> {
         }
         set_back(&mut self.counts, &self.ground.marks.list, standing.inner, 0);
         let steps = self.steps;
-        set_back(&mut self.set_back, &self.ground.marks.list, standing.inner, steps);
+        set_back(
+            &mut self.set_back,
+            &self.ground.marks.list,
+            standing.inner,
+            steps,
+        );
     }
 
     /// Begins the visits of loops that an edge of this kind led into, or those inside of the loop
     /// whose round it ended.
-    fn begin_visits(&mut self, kind: usize, opened: Option<usize>) {
+    fn begin_visits(&mut self, kind: usize, opened: Option<usize>) -> Result<(), AllocError> {
         let loops = self.ground.loops;
         let stayed = loops.chain(kind);
         let around = loops.around(self.ground.places.at(self.site));
         let mut is_behind = false;
         for number in around {
             if is_behind || !stayed.contains(number) {
-                self.begin(*number);
+                self.begin(*number)?;
             }
             is_behind |= opened == Some(*number);
         }
+        Ok(())
     }
 
     /// Begins the visit of a loop.
-    fn begin(&mut self, number: usize) {
-        if let Some(one) = self.ground.loops.list.get(number) {
-            self.stock.begin(&one.own);
-        }
+    fn begin(&mut self, number: usize) -> Result<(), AllocError> {
+        let place = self.ground.places.at(self.site);
+        self.stock
+            .begin(self.ground.loops, number, place, self.steps)?;
         if let Some(begun) = self.begun.get_mut(number) {
             *begun = self.steps;
         }
+        Ok(())
     }
 }
 

@@ -72,7 +72,11 @@ impl WaysBack {
                     ground,
                     place,
                     number: number.unwrap_or(usize::MAX),
-                    left: if asked.by_plan.is_some() { Some(left) } else { None },
+                    left: if asked.by_plan.is_some() {
+                        Some(left)
+                    } else {
+                        None
+                    },
                 };
                 if self.leads_back(within, asked, budget)? {
                     depth = place.saturating_add(1);
@@ -197,6 +201,21 @@ impl Within<'_> {
 }
 
 impl<'a> Ground<'a> {
+    /// These together.
+    pub fn new(
+        rows: &'a [SiteRow],
+        marks: &'a Marks,
+        places: &'a Places,
+        loops: &'a Loops,
+    ) -> Ground<'a> {
+        Ground {
+            rows,
+            marks,
+            places,
+            loops,
+        }
+    }
+
     /// An edge of a site.
     pub fn edge(self, site: usize, edge: usize) -> Option<&'a SiteEdge> {
         self.rows.get(site)?.edges.get(edge)

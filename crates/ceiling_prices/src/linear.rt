@@ -37,7 +37,8 @@ pub fn net_of(alloc: Global, graph: &Graph<'_>) -> Result<Net, AllocError> {
     }
     let mut net = Net::new(alloc, graph.reached.order.len(), ranks)?;
     for (node, site) in graph.reached.order.iter().enumerate() {
-        net.add_node(making.links_at(node, *site)?)?;
+        let links = making.links_at(node, *site)?;
+        net.add_node(making.location_of(*site), links)?;
     }
     net.start = making.node_of(graph.reached.start).unwrap_or(0);
     net.begun = making.owed(graph.regions.at(graph.reached.start))?;
@@ -66,6 +67,12 @@ impl<'a> Making<'a> {
             Some(node) => *node,
             None => None,
         }
+    }
+
+    /// The number of a site's location.
+    fn location_of(&self, site: usize) -> usize {
+        let row = self.graph.reached.row(site);
+        row.map_or(0, |row| usize::from(row.location.number))
     }
 
     /// The links of a site. Where nothing goes on and nothing ends, one ends that takes no time.
