@@ -1,5 +1,5 @@
-"""Random programs with marks that stand beside one another on one cycle, that the ceiling is measured
-with: on branches, on entries of loops, twice on a loop, and passed in turn."""
+"""Random programs with marks that stand beside one another on one cycle, that the ceiling is
+measured with: on branches, on entries of loops, twice on a loop, and passed in turn."""
 
 from ceiling_programs import notes_text
 from ceiling_structured import StructuredDeck

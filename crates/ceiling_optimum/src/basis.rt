@@ -79,8 +79,8 @@ impl Basis {
         Ok(parts)
     }
 
-    /// Takes a member in, and lets another one go. `false` where none has to go, so that there is no
-    /// end to what it brings.
+    /// Takes a member in, and lets another one go. `false` where none has to go, so that there is
+    /// no end to what it brings.
     pub fn enter(&mut self, columns: &Columns, member: Member) -> Result<bool, AllocError> {
         let parts = self.parts_of(columns, member)?;
         let Some(place) = self.leaving(&parts) else {
@@ -114,8 +114,8 @@ impl Basis {
         }
     }
 
-    /// The place whose member goes: that which is used up first. Ties are told by all entries of the
-    /// inverse's row, so that no basis comes again.
+    /// The place whose member goes: that which is used up first. Ties are told by all entries of
+    /// the inverse's row, so that no basis comes again.
     fn leaving(&self, parts: &[f64]) -> Option<usize> {
         let mut leaving: Option<usize> = None;
         for (place, part) in parts.iter().enumerate() {

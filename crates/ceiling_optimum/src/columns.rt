@@ -1,5 +1,5 @@
-//! The columns of the linear program: the ways that were found. Its first row says that there is one
-//! path, and each other one that by a price no more is paid than is charged.
+//! The columns of the linear program: the ways that were found. Its first row says that there is
+//! one path, and each other one that by a price no more is paid than is charged.
 
 use crate::net::{Charge, Net};
 use std::alloc::{AllocError, Global};
@@ -24,6 +24,9 @@ pub struct Columns {
 }
 
 impl Columns {
+    /// How many there are at most; others are left out.
+    const MOST: usize = 4_000;
+
     /// None yet.
     pub fn none(alloc: Global) -> Columns {
         Columns {
@@ -51,8 +54,11 @@ impl Columns {
         self.add(column)
     }
 
-    /// Adds a column, unless there is one like it.
+    /// Adds a column, unless there is one like it, or no room.
     fn add(&mut self, column: Column) -> Result<bool, AllocError> {
+        if self.list.len() >= Columns::MOST {
+            return Ok(false);
+        }
         for one in &self.list {
             if one.is_like(&column) {
                 return Ok(false);

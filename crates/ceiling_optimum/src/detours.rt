@@ -52,7 +52,7 @@ impl<'a> Detours<'a> {
     /// Makes a detour to each part that the others don't come to.
     pub fn connect(&mut self, budget: &mut Budget) -> Result<(), AllocError> {
         for _ in 0..MOST {
-            self.reach();
+            self.reach(budget);
             let Some(far) = self.far() else {
                 break;
             };
@@ -64,16 +64,26 @@ impl<'a> Detours<'a> {
     }
 
     /// Tells the places that the parts lead to from the start.
-    fn reach(&mut self) {
+    fn reach(&mut self, budget: &mut Budget) {
         for is_here in self.is_here.iter_mut() {
             *is_here = false;
         }
         self.meet(self.net.start);
+        let links = self.links();
         for _ in 0..self.parts.len() {
-            if !self.spread() {
+            if !self.spread() || !budget.spend(links) {
                 break;
             }
         }
+    }
+
+    /// How many links the parts have in all.
+    fn links(&self) -> u64 {
+        let mut links: u64 = 0;
+        for part in &self.parts {
+            links = links.saturating_add(part.links.len() as u64);
+        }
+        links
     }
 
     /// A node is come to. Whether its place is new.

@@ -58,8 +58,8 @@ impl Basis {
         Ok(None)
     }
 
-    /// By place, what the worths of the rows lack of what its member takes. `None` where there is no
-    /// room for that.
+    /// By place, what the worths of the rows lack of what its member takes. `None` where there is
+    /// no room for that.
     fn lacking_worths(
         &self,
         columns: &Columns,
@@ -95,8 +95,8 @@ impl Basis {
         }
     }
 
-    /// How often the member of each place is taken. Where no unit was found for that, near numbers in
-    /// parts of one.
+    /// How often the member of each place is taken. Where no unit was found for that, near numbers
+    /// in parts of one.
     pub fn shares(&self, columns: &Columns) -> Result<Solved, AllocError> {
         if let Some(solved) = self.shares_by(columns, 1)? {
             return Ok(solved);

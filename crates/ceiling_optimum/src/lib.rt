@@ -1,16 +1,16 @@
-//! The least prices by which no cycle of a net takes longer than it pays, so that what is owed at the
-//! start comes to as little as can be: a linear program, whose columns are ways, found as they are
-//! needed. Nothing is promised of what is found, but that the search ends: who takes it looks whether
-//! it is right.
+//! The least prices by which no cycle of a net takes longer than it pays, so that what is owed at
+//! the start comes to as little as can be: a linear program, whose columns are ways, found as they
+//! are needed. Nothing is promised of what is found, but that the search ends: who takes it looks
+//! whether it is right.
 //!
 //! Code, from the bottom up. `budget` has the steps that a search may take, and `floats` what lies
 //! between floats and whole numbers. `net` is what is searched, and `prices` what is charged there.
 //! `longest` looks for the longest ways at prices, and where there are none for the `cycles` that
-//! don't pay. Ways are `columns`; `basis` has those that are taken, `exact` what they come to in whole
-//! numbers, and `simplex` changes them until none brings more. `raising` raises prices by a first
-//! rule; `search` puts all of that together, and `whole` rounds what it comes to. `shares` tells how
-//! often each way is taken; `detours` leads to those that no other one comes to, by `ways` from and to
-//! them.
+//! don't pay. Ways are `columns`; `basis` has those that are taken, `exact` what they come to in
+//! whole numbers, and `simplex` changes them until none brings more. `raising` raises prices by a
+//! first rule; `search` puts all of that together, and `whole` rounds what it comes to. `shares`
+//! tells how often each way is taken; `detours` leads to those that no other one comes to, by
+//! `ways` from and to them.
 #![tactic(auto)]
 
 mod basis;

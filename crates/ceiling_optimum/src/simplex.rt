@@ -11,7 +11,7 @@ use std::alloc::{AllocError, Global};
 const CHANGES: usize = 8;
 
 /// How many steps a change takes for each entry of the basis.
-const STEPS: usize = 10;
+const STEPS: usize = 30;
 
 /// The columns with a basis of them.
 #[derive(Drop)]
@@ -48,12 +48,21 @@ impl Simplex {
             let Some(gain) = self.best(&worths) else {
                 return Ok(Some(worths));
             };
-            let steps = rows.saturating_mul(rows).saturating_mul(STEPS) as u64;
-            if !budget.spend(steps) || !self.basis.enter(&self.columns, gain.member)? {
+            if !budget.spend(self.steps() as u64)
+                || !self.basis.enter(&self.columns, gain.member)?
+            {
                 return Ok(None);
             }
         }
         Ok(None)
+    }
+
+    /// How many steps a change of the basis takes.
+    fn steps(&self) -> usize {
+        let rows = self.basis.members.len();
+        let basis = rows.saturating_mul(STEPS);
+        let entries = self.columns.list.len().saturating_add(basis);
+        entries.saturating_mul(rows)
     }
 
     /// The member that brings most at these worths; `None` where none brings anything.

@@ -1,4 +1,5 @@
-//! Whole prices near others: rounded, raised where a cycle doesn't pay, and lowered where that helps.
+//! Whole prices near others: rounded, raised where a cycle doesn't pay, and lowered where that
+//! helps.
 
 use crate::budget::Budget;
 use crate::prices::Prices;

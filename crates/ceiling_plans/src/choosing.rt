@@ -98,8 +98,8 @@ impl Walking<'_> {
         })
     }
 
-    /// How far out the loop is in which a way leads back: by what the plan has left, or else by what
-    /// the counts allow.
+    /// How far out the loop is in which a way leads back: by what the plan has left, or else by
+    /// what the counts allow.
     fn back_from(
         &mut self,
         choice: Choice,

@@ -1,14 +1,14 @@
-//! The search for a walk in rounds by a plan: how often each edge is to be taken, as the linear program
-//! behind a ceiling has it. Nothing is promised of what is found, but that the search ends: who takes
-//! it looks whether it is a walk.
+//! The search for a walk in rounds by a plan: how often each edge is to be taken, as the linear
+//! program behind a ceiling has it. Nothing is promised of what is found, but that the search ends:
+//! who takes it looks whether it is a walk.
 //!
-//! Code, from the bottom up. `marks` has how the marks stand in one another, and `places` the places
-//! and kinds of edges that a plan counts passes of; `plan` is how often each kind is taken. `strong`
-//! finds what leads to one another, `opening` chooses the mark at which a loop is opened, and `loops`
-//! has the loops in one another. `owed` tells what is owed by the prices, `stock` what is left of a
-//! plan and of a visit's share, which is all of that or an even one (`sharing`), and `ways_back` whether a way leads back to where it began. `trail` has the pieces so far;
-//! `walking` goes on step by step, where `choosing` tells by which edge, and `rounds` takes rounds at
-//! once.
+//! Code, from the bottom up. `marks` has how the marks stand in one another, and `places` the
+//! places and kinds of edges that a plan counts passes of; `plan` is how often each kind is taken.
+//! `strong` finds what leads to one another, `opening` chooses the mark at which a loop is opened,
+//! and `loops` has the loops in one another. `owed` tells what is owed by the prices, `stock` what
+//! is left of a plan and of a visit's share, which is all of that or an even one (`sharing`), and
+//! `ways_back` whether a way leads back to where it began. `trail` has the pieces so far; `walking`
+//! goes on step by step, where `choosing` tells by which edge, and `rounds` takes rounds at once.
 #![tactic(auto)]
 
 mod choosing;
@@ -47,8 +47,8 @@ use ways_back::{Ground, WaysBack};
 /// How many steps one walk may take of the budget.
 const WALK: u64 = 10_000_000;
 
-/// What walks are strung together over: the timing table, the marks, the rows of sites, the number of
-/// the start's, and what is owed by the prices of the ceiling.
+/// What walks are strung together over: the timing table, the marks, the rows of sites, the number
+/// of the start's, and what is owed by the prices of the ceiling.
 #[derive(Clone, Copy)]
 pub struct Task<'a> {
     pub times: &'a Times,
@@ -88,8 +88,8 @@ pub struct Found {
     pub pieces: Vec<Piece>,
 }
 
-/// The pieces of a walk that takes as long as was found, by how often each way is to be taken. None,
-/// where no walk was found.
+/// The pieces of a walk that takes as long as was found, by how often each way is to be taken.
+/// None, where no walk was found.
 pub fn find(
     alloc: Global,
     task: Task<'_>,

@@ -1,6 +1,6 @@
-//! At which mark a loop is opened: one that stands inside of no other on it; rather none that another
-//! one's pass sets back on a cycle that it is passed on alone; one that most cycles of the plan pass;
-//! and the one that is passed least.
+//! At which mark a loop is opened: one that stands inside of no other on it; rather none that
+//! another one's pass sets back on a cycle that it is passed on alone; one that most cycles of the
+//! plan pass; and the one that is passed least.
 
 use crate::loops::bits_of;
 use crate::marks::{Marks, Standing, bit_of};

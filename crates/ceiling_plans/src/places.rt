@@ -1,4 +1,5 @@
-//! Places and kinds: a plan counts passes from place to place, whatever else a site is told apart by.
+//! Places and kinds: a plan counts passes from place to place, whatever else a site is told apart
+//! by.
 
 use ceiling_rows::SiteRow;
 use std::alloc::{AllocError, Global};

@@ -132,8 +132,8 @@ impl Walking<'_> {
         }))
     }
 
-    /// By how much each count has risen since; none, where one has fallen, or was set back and isn't
-    /// what it was.
+    /// By how much each count has risen since; none, where one has fallen, or was set back and
+    /// isn't what it was.
     fn rises_since(&self, visit: &Visit) -> Result<Option<Vec<u32>>, AllocError> {
         let mut rises = Vec::new(self.alloc);
         for ((count, before), step) in self.counts.iter().zip(&visit.counts).zip(&self.set_back) {

@@ -1,4 +1,5 @@
-//! Even shares: each visit of a loop may take what is left over the visits that are left, rounded up.
+//! Even shares: each visit of a loop may take what is left over the visits that are left, rounded
+//! up.
 
 use crate::loops::{Loop, Loops};
 use crate::places::Places;
@@ -16,6 +17,9 @@ struct Begun {
     /// What was left for them.
     left: Vec<Taken>,
 }
+
+/// How many visits are remembered at most, as they began.
+const MOST: usize = 256;
 
 /// What the visits of loops have left.
 #[derive(Drop)]
@@ -126,6 +130,9 @@ impl Sharing {
             left.push(Taken { kind: *kind, times })?;
             set(share, *kind, over(times, visits));
         }
+        if self.begun.len() >= MOST {
+            self.begun.clear();
+        }
         self.begun.push(Begun {
             step,
             number,
@@ -171,8 +178,8 @@ impl Sharing {
         }
     }
 
-    /// How many more rounds of a loop there are at most, so that each visit further in gets the same
-    /// share as in the one that began behind a step.
+    /// How many more rounds of a loop there are at most, so that each visit further in gets the
+    /// same share as in the one that began behind a step.
     pub fn rounds(&self, loops: &Loops, one: &Loop, since: u32, taken: &[Taken]) -> u128 {
         let mut least = u128::MAX;
         for begun in self.begun.iter().rev() {
@@ -201,7 +208,8 @@ fn entries_of(loops: &Loops, number: usize, taken: &[Taken]) -> i128 {
 }
 
 impl Begun {
-    /// How many more rounds there are at most, each with so many visits, so that each gets the same.
+    /// How many more rounds there are at most, each with so many visits, so that each gets the
+    /// same.
     fn rounds(&self, entries: i128, taken: &[Taken]) -> u128 {
         let mut least = u128::MAX;
         for one in &self.left {

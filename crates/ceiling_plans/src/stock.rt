@@ -66,8 +66,8 @@ impl Stock {
         }
     }
 
-    /// How many more rounds of a loop there are that each take this of a kind. One is left where the
-    /// kind doesn't end the round.
+    /// How many more rounds of a loop there are that each take this of a kind. One is left where
+    /// the kind doesn't end the round.
     pub fn rounds(&self, loops: &Loops, number: usize, taken: Taken, is_last: bool) -> u128 {
         let mut left = self.left_of(taken.kind);
         if loops.home(taken.kind) == Some(number) {

@@ -106,7 +106,8 @@ impl Parting<'_> {
         Ok(())
     }
 
-    /// Goes through all places to which ways lead from one, each left behind those that it leads to.
+    /// Goes through all places to which ways lead from one, each left behind those that it leads
+    /// to.
     fn leave_from(&mut self, place: usize) -> Result<(), AllocError> {
         self.meet(place)?;
         let steps = self.edges.len().saturating_add(self.is_seen.len());

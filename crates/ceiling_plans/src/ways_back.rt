@@ -1,5 +1,5 @@
-//! Whether a way leads back to where an edge begins, and in which loop: by what the plan has left, and
-//! by what the counts allow.
+//! Whether a way leads back to where an edge begins, and in which loop: by what the plan has left,
+//! and by what the counts allow.
 
 use crate::loops::Loops;
 use crate::marks::{Marks, bit_of};
@@ -51,8 +51,8 @@ impl WaysBack {
         })
     }
 
-    /// How deep the innermost loop is within which a way leads back from an edge; 0 where none does.
-    /// By the plan only kinds serve of which it has some left.
+    /// How deep the innermost loop is within which a way leads back from an edge; 0 where none
+    /// does. By the plan only kinds serve of which it has some left.
     pub fn depth(
         &mut self,
         ground: Ground<'_>,

@@ -6,9 +6,9 @@
 //! tables `by_site`. `prices` tells what an edge takes at prices, `rounds` what a mark's price has
 //! to be, once others have theirs, by the `ways` round it and their `cycles`, and `settling` gives
 //! the marks their prices in an `order`. `levels` sums up what walks take on from each site.
-//! `linear` makes the net over which `ceiling_optimum` looks for the least prices of all. Where those
-//! weren't found, or aren't whole, `tries` looks for a better order and higher prices, with the limits
-//! of how long. What all of it comes to is `found`.
+//! `linear` makes the net over which `ceiling_optimum` looks for the least prices of all. Where
+//! those weren't found, or aren't whole, `tries` looks for a better order and higher prices, with
+//! the limits of how long. What all of it comes to is `found`.
 #![tactic(auto)]
 
 mod by_site;

@@ -68,8 +68,8 @@ impl<'a> Tries<'a> {
         })
     }
 
-    /// Takes the least prices, where what is owed in all is less by them. Whether no others can come
-    /// to less.
+    /// Takes the least prices, where what is owed in all is less by them. Whether no others can
+    /// come to less.
     pub fn takes(&mut self, optimum: &Option<Optimum>) -> Result<bool, AllocError> {
         let Some(optimum) = optimum else {
             return Ok(false);
