@@ -12,6 +12,8 @@ The decks are made here, from seeds:
 - the 22 programs of ceiling_programs.py;
 - COUNT programs of ceiling_structured.py that have a bound (300, unless it is given), half as many
   that are past its limit, and half as many wild ones, with a bound;
+- a third of COUNT of each kind of ceiling_beside.py, whose marks stand beside one another on one
+  cycle, with a bound, and as many past its limit;
 - a third of COUNT of odd decks of ceiling_random.py: the first that have a bound. They are of mixed
   flow, and every third of them has branches at most of its words.
 
@@ -34,6 +36,7 @@ import time
 TOP = os.path.dirname(os.path.dirname(os.path.abspath(__file__)))
 sys.path.insert(0, os.path.join(TOP, "checks"))
 
+import ceiling_beside
 import ceiling_decks
 import ceiling_programs
 import linear_programs
@@ -219,6 +222,12 @@ def structured_decks(count, name, **kind):
         yield "%s deck %d" % (name, seed), *StructuredDeck(seed, **kind).written()
 
 
+def beside_decks(count, kind, is_large=False):
+    for seed in range(count):
+        deck = ceiling_beside.BesideDeck(seed, kind, is_large)
+        yield "marks %s, deck %d" % (kind, seed), *deck.written()
+
+
 def random_decks():
     """Decks of mixed flow, and half as many where most words branch, without end."""
     for seed in itertools.count():
@@ -270,6 +279,13 @@ def measure_speed(bench, programs):
         print("%s: %s" % (name, ", earlier ".join(told)), flush=True)
 
 
+def beside_sets(count):
+    """The decks of each kind of marks beside one another: those with a bound, and those without."""
+    for kind in ceiling_beside.KINDS:
+        yield "marks %s" % kind, beside_decks(count, kind), True
+        yield "marks %s, past the limit" % kind, beside_decks(count, kind, True), False
+
+
 def main():
     if len(sys.argv) > 4:
         sys.exit(__doc__)
@@ -288,6 +304,7 @@ def main():
             ("odd decks", odd, True),
             ("wild programs", structured_decks(half, "wild", is_wild=True), True),
             ("past the limit", structured_decks(half, "large", is_large=True), False),
+            *beside_sets(count // 3),
         ]:
             wrong += Set(bench, name, decks, earlier).compare(with_bound)
     right = "no ceiling is below a bound, or dearer than prices alone, and no walk is above it"

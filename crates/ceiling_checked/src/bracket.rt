@@ -11,10 +11,12 @@ ghost use Rattle.ceiling_checked.specs.CeilingOf.{IsCeilingRefusal};
 ghost use Rattle.ceiling_checked.specs.BracketOf.{IsBracketOf};
 
 use crate::answer::Ceiling;
-use crate::finding::ceiling;
+use crate::finding::{SEARCHES, ceiling};
 use base_notes::{Notes, Times};
 use base_words::REVOLUTION;
+use ceiling_optimum::Budget;
 use ceiling_pieces::find;
+use ceiling_plans::{Owed, Task};
 use ceiling_rounds::{InRounds, Setting};
 use ceiling_rows::{SiteRow, Sites, rows_of, site_rows};
 use flow_acceptance::OrderedFlow;
@@ -30,6 +32,45 @@ pub struct Bracket {
     pub walk: InRounds,
 }
 
+/// The longer of two walks that may have been found.
+fn longer(one: Option<InRounds>, other: Option<InRounds>) -> Option<InRounds>
+    ensures { (result ≡ one) ⊎ (result ≡ other) }
+{
+    let Some(first) = one else {
+        return other;
+    };
+    match other {
+        Some(second) if second.total() > first.total() => Some(second),
+        _ => Some(first),
+    }
+}
+
+/// A walk that is strung together from the ways by which the least prices are found. `None` where
+/// none is.
+fn strung_by(
+    alloc: Global,
+    by: &Setting<'_>,
+    rows: &[SiteRow],
+    order: &[usize],
+    start: usize,
+    most: u128,
+) -> Result<Option<InRounds>, AllocError>
+    ensures { IfOk result (λ made. IfSome made
+        (IsInRoundsOf by.now.deck.now by.now.times.now by.now.notes.now)) }
+{
+    let marks = by.notes.marks();
+    let mut budget = Budget::of(SEARCHES);
+    let found = ceiling_prices::find(alloc, rows, order, start, marks, &mut budget)?;
+    let owed = Owed {
+        prices: &found.prices,
+        regions: &found.regions,
+        levels: &found.levels,
+    };
+    let task = Task::new(by.times, marks, rows, start, owed, most);
+    let strung = ceiling_plans::find(alloc, task, &found.shares, &mut budget)?;
+    by.weigh(alloc, strung.pieces)
+}
+
 /// A walk, as long as the search finds one: by the rows of sites, by an order of them in which
 /// every edge without a mark goes on, and from that of the start. `None` where it finds none.
 fn found_by(
@@ -38,12 +79,26 @@ fn found_by(
     rows: &[SiteRow],
     order: &[usize],
     start: usize,
+    most: u128,
 ) -> Result<Option<InRounds>, AllocError>
     ensures { IfOk result (λ made. IfSome made
         (IsInRoundsOf by.now.deck.now by.now.times.now by.now.notes.now)) }
 {
     let pieces = find(alloc, by.times, by.notes.marks(), rows, order, start)?;
-    by.weigh(alloc, pieces)
+    let found = by.weigh(alloc, pieces)?;
+    if reaches(&found, most) {
+        return Ok(found);
+    }
+    let strung = strung_by(alloc, by, rows, order, start, most)?;
+    Ok(longer(found, strung))
+}
+
+/// Whether a walk takes as long as this.
+fn reaches(walk: &Option<InRounds>, most: u128) -> bool {
+    match walk {
+        Some(walk) => walk.total() >= most,
+        None => false,
+    }
 }
 
 /// The same, where the deck with its notes is admitted.
@@ -51,6 +106,7 @@ fn found_along(
     alloc: Global,
     by: &Setting<'_>,
     accepted: &OrderedFlow<'_>,
+    most: u128,
 ) -> Result<Option<InRounds>, AllocError>
     requires nodes { of_flow AreAllNodes accepted.now.flow (nodes_of accepted.now.flow) }
     requires found { of_flow AreFound accepted.now.flow (executed_in accepted.now.flow) }
@@ -64,7 +120,7 @@ fn found_along(
     let order = sites.in_order(alloc, accepted.nodes())?;
     let angle = u64::from(flow.deck().start().number) % REVOLUTION;
     match sites.number(0, angle) {
-        Some(start) => found_by(alloc, by, &rows, &order, start),
+        Some(start) => found_by(alloc, by, &rows, &order, start, most),
         None => Ok(None),
     }
 }
@@ -111,7 +167,7 @@ pub fn reached(alloc: Global, deck: &Deck, times: &Times, notes: &Notes) -> Resu
     let ceiling = ceiling(alloc, deck, times, notes)?;
     let accepted = OrderedFlow::of_any_size(alloc, deck, notes)?;
     let by = Setting { deck, times, notes };
-    let found = found_along(alloc, &by, &accepted)?;
+    let found = found_along(alloc, &by, &accepted, ceiling.total())?;
     let walk = longer_of(found, one_hop(alloc, times, &accepted)?);
     Ok(Bracket { ceiling, walk })
 }

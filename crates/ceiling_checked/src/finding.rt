@@ -25,6 +25,7 @@ use crate::prices::{Prices, prices_by_order};
 use crate::size::Size;
 use base_notes::{Mark, Notes, Times};
 use base_words::REVOLUTION;
+use ceiling_optimum::Budget;
 use ceiling_prices::find;
 use ceiling_rows::{Row, Sites, rows_of, site_rows};
 use flow_acceptance::OrderedFlow;
@@ -32,6 +33,9 @@ use flow_acceptance::counts::product_of;
 use flow_graph::Refusal;
 use read_decks::Deck;
 use std::alloc::{AllocError, Global};
+
+/// How many steps the searches take at most.
+pub const SEARCHES: u64 = 40_000_000;
 
 /// The prices with the lower total, where there are two.
 fn lower_of(found: Option<Prices>, by_order: Option<Prices>) -> Option<Prices>
@@ -82,7 +86,8 @@ fn found_prices(
         return Ok(None);
     };
     let order = sites.in_order(alloc, accepted.nodes())?;
-    let found = find(alloc, &rows, &order, start, marks)?;
+    let mut budget = Budget::of(SEARCHES);
+    let found = find(alloc, &rows, &order, start, marks, &mut budget)?;
     Ok(Certificate::from(found).checked(marks, &rows, start))
 }
 

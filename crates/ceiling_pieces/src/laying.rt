@@ -72,7 +72,7 @@ impl<'a> Laying<'a> {
     }
 
     /// Pieces in a row, the last of which ends at an angle.
-    fn row(&mut self, pieces: Vec<usize>, angle: u64) -> Result<Option<Laid>, AllocError> {
+    pub fn row(&mut self, pieces: Vec<usize>, angle: u64) -> Result<Option<Laid>, AllocError> {
         if let [piece] = pieces.as_slice() {
             let piece = *piece;
             return Ok(Some(Laid { piece, angle }));
@@ -130,7 +130,7 @@ impl<'a> Laying<'a> {
     }
 
     /// A step that begins at an angle.
-    fn step(&mut self, step: Step, angle: u64) -> Result<Option<Laid>, AllocError> {
+    pub fn step(&mut self, step: Step, angle: u64) -> Result<Option<Laid>, AllocError> {
         let begun = Begun {
             site: step.from,
             edge: step.edge,

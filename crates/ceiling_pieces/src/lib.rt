@@ -26,6 +26,8 @@ use base_words::REVOLUTION;
 use building::Building;
 use ceiling_rows::SiteRow;
 use flow_walks::Piece;
+pub use free::Step;
+pub use laying::{Laid, Laying};
 use loops::Loops;
 use passings::Passings;
 use sources::Sources;

@@ -4,6 +4,7 @@ use crate::by_site::{Bits, BySite};
 use crate::graph::Graph;
 use crate::levels::Levels;
 use crate::marks::Standing;
+use ceiling_optimum::Share;
 use std::alloc::{AllocError, Global};
 
 /// Prices of the marks, with what goes with them.
@@ -17,6 +18,8 @@ pub struct Found {
     pub levels: Vec<Option<u128>>,
     /// How much more the levels are than what is owed, so that none of them is below 0.
     pub debt: u128,
+    /// The ways that the prices were found by, each with how often it is taken.
+    pub shares: Vec<Share>,
 }
 
 impl Found {
@@ -26,6 +29,7 @@ impl Found {
         graph: Graph<'_>,
         prices: &[i128],
         found: &Levels,
+        shares: Vec<Share>,
     ) -> Result<Found, AllocError> {
         let debt = found.debt(&graph.reached);
         let Graph { marks, regions, .. } = graph;
@@ -43,6 +47,7 @@ impl Found {
             regions,
             levels: raised(alloc, &found.owed, debt)?,
             debt: natural(debt),
+            shares,
         })
     }
 }

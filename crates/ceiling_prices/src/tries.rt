@@ -7,6 +7,7 @@ use crate::marks::Standing;
 use crate::order::{by_passes, with_first, with_last};
 use crate::prices::Prices;
 use crate::settling::Settling;
+use ceiling_optimum::Optimum;
 use std::alloc::{AllocError, Global};
 use std::mem;
 
@@ -65,6 +66,32 @@ impl<'a> Tries<'a> {
             levels,
             tried,
         })
+    }
+
+    /// Takes the least prices, where what is owed in all is less by them. Whether no others can
+    /// come to less.
+    pub fn takes(&mut self, optimum: &Option<Optimum>) -> Result<bool, AllocError> {
+        let Some(optimum) = optimum else {
+            return Ok(false);
+        };
+        let prices = self.prices_of(&optimum.prices)?;
+        let total = self.tried.total(self.graph, &prices).unwrap_or(i128::MAX);
+        if total < self.best.total {
+            self.best.least = optimum.prices.clone()?;
+            self.best.prices = prices;
+            self.best.total = total;
+            mem::swap(&mut self.levels, &mut self.tried);
+        }
+        Ok(optimum.is_least && total <= self.best.total)
+    }
+
+    /// These prices of the marks.
+    fn prices_of(&self, list: &[i128]) -> Result<Prices, AllocError> {
+        let mut prices = Prices::none(self.alloc, list.len())?;
+        for (mark, (standing, price)) in (0..u8::MAX).zip(self.graph.marks.list.iter().zip(list)) {
+            prices.set(mark, *price, standing.most);
+        }
+        Ok(prices)
     }
 
     /// How many edges were looked at.
