@@ -9,9 +9,9 @@
 //! looks whether they pay for every hop, where `step` tells what the marks charge for it, by each
 //! `region`. `size` has what neither total nor price is above, by the passes `in_rounds` of the
 //! marks, and `prices` such prices as are surely high enough. `finding` takes the lower ones, and
-//! `answer` is what is handed out. `bracket` has a ceiling with its walk: the longest of those whose
-//! pieces `ceiling_pieces` and `ceiling_plans` look for and `ceiling_rounds` checks, and the longest
-//! of one hop.
+//! `answer` is what is handed out. `bracket` has a ceiling with its walk: the longest of those
+//! whose pieces `ceiling_pieces` and `ceiling_plans` look for and `ceiling_rounds` checks, and the
+//! longest of one hop.
 //!
 //! Definitions, in the order to read them: `Certificate` (what is owed for a node, an angle and
 //! counts, so that it pays for every hop), `Affine` (the form of it that is looked for), `Rounds`

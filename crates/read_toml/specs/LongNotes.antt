@@ -13,7 +13,8 @@ long_note_keys =
 
 -- the faults of the marks, and of the calls, of which there are up to 64 each
 abbrev pub long_marks_faults : Members → List Fault
-long_marks_faults document = tables 0 (Some 64) (long_mark_faults document) [] (codes "mark") document
+long_marks_faults document =
+    tables 0 (Some 64) (long_mark_faults document) [] (codes "mark") document
 
 abbrev pub calls_faults : Members → List Fault
 calls_faults document = tables 0 (Some 64) (call_faults document) [] (codes "call") document

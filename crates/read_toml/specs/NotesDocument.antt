@@ -116,8 +116,8 @@ repeated_locations document =
     location_faults []
     (flat_map (locations_at (codes "location")) (tables_at (codes "list") document))
 
--- The faults that each check of notes finds, where these are the keys that they may have, the faults
--- of their marks, those of their calls, and the edges of the marks.
+-- The faults that each check of notes finds, where these are the keys that they may have, the
+-- faults of their marks, those of their calls, and the edges of the marks.
 abbrev pub notes_checks : List (List ℕ) → List Fault → List Fault → List (ℕ × ℕ) → Members
     → List (List Fault)
 notes_checks keys marks calls edges document =

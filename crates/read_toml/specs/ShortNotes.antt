@@ -13,8 +13,8 @@ note_keys = codes "programmed" ∷ codes "load_cards" ∷ codes "mark" ∷ codes
 abbrev pub mark_keys : List (List ℕ)
 mark_keys = codes "from" ∷ codes "to" ∷ codes "most" ∷ codes "inside" ∷ []
 
--- the faults that each check of a mark finds, of this number, from 1: unknown keys, missing keys, and
--- then the values; the outer mark is an earlier one, by its number
+-- the faults that each check of a mark finds, of this number, from 1: unknown keys, missing keys,
+-- and then the values; the outer mark is an earlier one, by its number
 abbrev pub mark_checks : ℕ → List ℕ → Members → List (List Fault)
 mark_checks number at fields =
     unknown_in at mark_keys fields

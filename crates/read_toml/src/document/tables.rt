@@ -38,7 +38,8 @@ fn read_elements<T: Element + Drop>(
     fields: &Fields<'_>,
     items: &[Value],
 ) -> Result<Vec<T>, AllocError>
-    requires { Each (T.holds (table_view fields.now.whole.now)) 0 (tables_of (items_view items.now)) }
+    requires { Each (T.holds (table_view fields.now.whole.now)) 0
+        (tables_of (items_view items.now)) }
     ensures { IfOk result (λ elements. AreSaid (T.says (table_view fields.now.whole.now)) 0
         (tables_of (items_view items.now)) elements.items) }
 {

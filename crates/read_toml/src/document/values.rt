@@ -38,7 +38,8 @@ impl Fields<'_> {
 
     /// What the text at a key stands for, which stands for something.
     pub fn chosen<T: Copy + Drop>(&self, key: &str, choices: &[(&str, T)]) -> T
-        requires { (value : Data) × (get_member key.now (table_view self.now.table.now) ≡ Some value)
+        requires { (value : Data)
+            × (get_member key.now (table_view self.now.table.now) ≡ Some value)
             × ((one : T) × StandsFor (map (λ choice. (choice.0.now, choice.1)) choices.now) value
             one) }
         ensures { (value : Data) × (get_member key.now (table_view self.now.table.now) ≡ Some value)
