@@ -166,7 +166,7 @@ module _ (g : Setting) (nodes : List Node) (sites : List Site) (rows : List Site
       ends = go (mark_by marks place hop.way) refl hop.way refl
         where
           stops : mark_by marks place hop.way ≡ None → ended + 49 ≤ angle + (level + cost_at number counts - by.debt)
-          stops none = omega (arith, takes.ends none, is_paid.ends)
+          stops none = omega (arith, takes.ends (λ next on. (allowed next on).0) none, is_paid.ends)
 
           go : (mark : Option ℕ) → mark_by marks place hop.way ≡ mark → (way : Way) → hop.way ≡ way
               → ended + 49 ≤ angle + (level + cost_at number counts - by.debt)

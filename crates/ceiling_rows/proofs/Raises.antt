@@ -41,7 +41,7 @@ pub raised_more : (from : Found) (before after : Raised) (ins : Instruction) (wa
     → IsRaised from before ins way → IsRaised from after ins way
 raised_more from before after ins way grows is = record {
   within = omega (arith, is.within, grows.most);
-  ends = λ unmarked. omega (arith, is.ends unmarked, grows.stop);
+  ends = λ nowhere. omega (arith, is.ends nowhere, grows.stop);
   goes_on = λ next on.
       let so = is.goes_on next on in
       let more = grows.onward (slot_of next (found next (latest from ins way) % 50)) so.1.0 so.1.1 in
@@ -61,7 +61,7 @@ raised_alike from raised ins other way op kind angle is =
     longest_alike (entry_in from.times.now) from.location.number from.angle ins other way op kind angle in
     record {
       within = omega (arith, is.within, long);
-      ends = λ unmarked. omega (arith, is.ends unmarked, long);
+      ends = λ nowhere. omega (arith, is.ends nowhere, long);
       goes_on = λ next on. subst (λ (ended : ℕ). IsLocation next
           × IsReachedBy raised.onward.items next from.angle (found next ended) ended) long (is.goes_on next on);
     }
@@ -73,7 +73,7 @@ pub raised_sooner : (from : Found) (raised : Raised) (ins other : Instruction) (
     → IsRaised from raised ins way → IsRaised from raised other way
 raised_sooner from raised ins other way sooner on_drum is = record {
   within = omega (arith, is.within, sooner);
-  ends = λ unmarked. omega (arith, is.ends unmarked, sooner);
+  ends = λ nowhere. omega (arith, is.ends nowhere, sooner);
   goes_on = λ next on.
       let so = is.goes_on next on in
       let below : next < 2000 = on_drum next on in

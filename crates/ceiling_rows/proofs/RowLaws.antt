@@ -24,7 +24,6 @@ use Rattle.ceiling_rows.specs.declared.raised.Raised.{Raised}
 use Rattle.ceiling_rows.specs.declared.row.Edge.{Edge}
 use Rattle.ceiling_rows.specs.declared.row.Row.{Row}
 use Rattle.ceiling_rows.specs.Steps.{arrival}
-use Rattle.ceiling_rows.specs.Marked.{mark_by}
 use Rattle.ceiling_rows.specs.Raised.{latest, HasTaken, IsRaised}
 use Rattle.ceiling_rows.specs.Rows.{HasEdge, HasEdges, IsRow}
 use Rattle.ceiling_rows.specs.Slot.{place_of, slot_of}
@@ -114,12 +113,7 @@ row_of_raised g from raised row notes times taken stop most edges hop there =
     ap (λ (table : Op → Entry). longest table place hop.ins hop.way from.angle) times in
     record {
       within = omega (arith, is.within, long, most);
-      ends = λ unmarked. omega (
-        arith,
-        is.ends (ap (λ (n : Notes). mark_by n.marks place hop.way) (sym notes) ∙ unmarked),
-        long,
-        stop,
-      );
+      ends = λ nowhere. omega (arith, is.ends nowhere, long, stop);
       goes_on = λ next on.
           let reached = is.goes_on next on in
           let arrives : arrival g place from.angle hop next ≡ found next ended = ap (found next) long in

@@ -12,7 +12,7 @@ use Rattle.ceiling_rows.specs.declared.found.Found.{Found}
 use Rattle.ceiling_rows.specs.declared.raised.Onward.{Onward}
 use Rattle.ceiling_rows.specs.declared.raised.Raised.{Raised}
 use Rattle.ceiling_rows.specs.declared.row.Edge.{Edge}
-use Rattle.ceiling_rows.specs.Marked.{mark_by}
+use Rattle.ceiling_rows.specs.Marked.{LeadsNowhere}
 use Rattle.ceiling_rows.specs.Slot.{slot_of}
 
 -- What stands at the number of this place, where it is found at this clock, is no less, and neither
@@ -31,8 +31,7 @@ latest from ins way =
 -- it ends.
 pub record IsRaised (from : Found) (raised : Raised) (ins : Instruction) (way : Way) : Type 0 where
   pub within : latest from ins way + 49 ≤ from.angle + raised.most
-  pub ends : mark_by from.notes.now.marks from.location.number way ≡ None
-      → latest from ins way + 49 ≤ from.angle + raised.stop
+  pub ends : LeadsNowhere way → latest from ins way + 49 ≤ from.angle + raised.stop
   pub goes_on : (next : ℕ) → way ≡ to next → IsLocation next
       × IsReachedBy raised.onward.items next from.angle (found next (latest from ins way))
       (latest from ins way)

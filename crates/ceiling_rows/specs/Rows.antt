@@ -1,5 +1,5 @@
 -- Rows: what the hops of a location take at most, from when its instruction is found at an angle.
-use Rattle.std.specs.Prelude.{◌≡◌, ℕ, ◌+◌, ◌%◌, ◌<◌, ◌≤◌, List, Option, Some, None, Contains}
+use Rattle.std.specs.Prelude.{◌≡◌, ℕ, ◌+◌, ◌%◌, ◌<◌, ◌≤◌, List, Option, Some, Contains}
 use Rattle.std.specs.Prelude.{slice_get}
 use Rattle.base_words.specs.Location.{IsLocation}
 use Rattle.base_notes.specs.declared.notes.mark.Mark.{Mark}
@@ -13,7 +13,7 @@ use Rattle.ceiling_rows.specs.declared.raised.Onward.{Onward}
 use Rattle.ceiling_rows.specs.declared.row.Edge.{Edge}
 use Rattle.ceiling_rows.specs.declared.row.Row.{Row}
 use Rattle.ceiling_rows.specs.Steps.{arrival}
-use Rattle.ceiling_rows.specs.Marked.{mark_by}
+use Rattle.ceiling_rows.specs.Marked.{LeadsNowhere}
 use Rattle.ceiling_rows.specs.Steps.{TakesAtMost}
 use Rattle.ceiling_rows.specs.Slot.{place_of, slot_of}
 
@@ -25,11 +25,11 @@ pub record IsEdgeOf (g : Setting) (place angle : ℕ) (hop : Hop) (next : ℕ) (
     pub time : arrival g place angle hop next ≤ angle + edge.time
     pub stop : longest g.times place hop.ins hop.way angle + 49 ≤ angle + edge.stop
 
--- The row has the hop: it ends no later than the row says, less 49 word times; and where it goes
--- on, the row has its edge.
+-- The row has the hop: it ends no later than the row says, less 49 word times, of all hops, and of
+-- those that lead nowhere; and where it goes on, the row has its edge.
 pub record Takes (g : Setting) (place angle : ℕ) (row : Row) (hop : Hop) : Type 0 where
   pub within : longest g.times place hop.ins hop.way angle + 49 ≤ angle + row.most
-  pub ends : mark_by g.notes.marks place hop.way ≡ None
+  pub ends : LeadsNowhere hop.way
       → longest g.times place hop.ins hop.way angle + 49 ≤ angle + row.stop
   pub goes_on : (next : ℕ) → hop.way ≡ to next → IsLocation next
       × ((edge : Edge) × Contains row.edges.items edge × IsEdgeOf g place angle hop next edge)

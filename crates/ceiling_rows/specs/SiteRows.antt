@@ -5,7 +5,7 @@ use Rattle.std.specs.Prelude.{Contains}
 use Rattle.base_notes.specs.Allowed.{Notes}
 use Rattle.base_notes.specs.Marks.{mark_on}
 use Rattle.machine_steps.specs.Calls.{open_after, MayGo}
-use Rattle.machine_steps.specs.Ways.{to}
+use Rattle.machine_steps.specs.Ways.{Way, to}
 use Rattle.flow_graph.specs.Executed.{onward}
 use Rattle.flow_graph.specs.Hops.{edge_between, hops, Hop, Node}
 use Rattle.flow_graph.specs.Longest.{longest}
@@ -36,11 +36,17 @@ pub record IsSiteEdge (g : Setting) (nodes : List Node) (sites : List Site) (nod
   pub time : arrival g node.place angle hop next ≤ angle + edge.time
   pub stop : longest g.times node.place hop.ins hop.way angle + 49 ≤ angle + edge.stop
 
--- The row has the hop: where it passes no mark, it ends no later than the row says, less 49 word
--- times; and where it goes on, and a step may, the row has its edge.
+-- A step may go by this way from a node: where it goes on, along an edge that it may take with what
+-- is open there.
+abbrev pub MayLeave : Notes → Node → Way → Type 0
+MayLeave notes node way =
+    (next : ℕ) → way ≡ to next → MayGo notes.calls node.ways (edge_between node.place next)
+
+-- The row has the hop, if a step may go by its way: where it passes no mark, it ends no later than
+-- the row says, less 49 word times; and where it goes on, the row has its edge.
 pub record Leaves (g : Setting) (nodes : List Node) (sites : List Site) (node : Node) (angle : ℕ)
     (row : SiteRow) (hop : Hop) : Type 0 where
-  pub ends : mark_by g.notes.marks node.place hop.way ≡ None
+  pub ends : MayLeave g.notes node hop.way → mark_by g.notes.marks node.place hop.way ≡ None
       → longest g.times node.place hop.ins hop.way angle + 49 ≤ angle + row.stop
   pub goes_on : (next : ℕ) → hop.way ≡ to next
       → MayGo g.notes.calls node.ways (edge_between node.place next)
@@ -77,10 +83,15 @@ abbrev pub HasAllOnward : Notes → List Node → List Site → Node → List Ed
 HasAllOnward notes nodes sites from edges made =
     (edge : Edge) → Contains edges edge → HasOnward notes nodes sites from edge made
 
+-- No edge without a mark has a later end.
+abbrev pub EndWithin : ℕ → List SiteEdge → Type 0
+EndWithin stop edges =
+    (edge : SiteEdge) → Contains edges edge → edge.mark ≡ None → edge.stop ≤ stop
+
 -- The row of a site is made of that of its location at its angle, where there is one.
 abbrev pub IsMadeOf : Notes → List Node → List Site → List (Option Row) → Site → SiteRow → Type 0
 IsMadeOf notes nodes sites rows site made =
     (from : Node) (row : Row) → slice_get nodes site.node ≡ Some from
     → slice_get rows (slot_of from.place (site.angle % 50)) ≡ Some (Some row)
-    → (made.stop ≡ row.stop)
+    → (row.stop ≤ made.stop) × EndWithin made.stop made.edges.items
     × HasAllOnward notes nodes sites from row.edges.items made.edges.items

@@ -1,14 +1,13 @@
 //! A location whose instruction is found at an angle, under notes and with a timing table.
 
-ghost use Rattle.std.specs.Prelude.{◌≡◌, ◌%◌, ◌<◌, ◌↔◌, IsSome, IsTrue};
+ghost use Rattle.std.specs.Prelude.{◌≡◌, ◌%◌, ◌<◌, ◌↔◌, IsTrue};
 ghost use Rattle.machine_steps.specs.Timing.{found};
 
 use crate::slot::Slot;
-use base_notes::{Mark, Notes, Times};
+use base_notes::{Notes, Times};
 use base_words::Location;
 use flow_graph::Flow;
 use machine_rotation::{Clockwork, Seek};
-use machine_steps::Way;
 
 /// The most word times that the search for an instruction takes.
 pub const LONGEST_SEARCH: u64 = 49;
@@ -35,8 +34,6 @@ pub struct Found<'a> {
 
 impl<'a> Found<'a> {
     ghost use Rattle.flow_graph.specs.Flow.{notes_of};
-    ghost use Rattle.machine_steps.specs.WaysLeft.{seen_way};
-    ghost use Rattle.ceiling_rows.specs.Marked.{mark_by};
     ghost use Rattle.ceiling_rows.specs.Slot.{place_of};
 
     /// The location and the angle of this number, under the notes of a flow graph.
@@ -60,16 +57,5 @@ impl<'a> Found<'a> {
             ↔ (found self.now.location.number self.now.angle ≡ self.now.angle) }
     {
         is_found_at(self.location, self.angle)
-    }
-
-    /// Whether a hop of the location that ends by this way goes on along an edge with a mark.
-    pub fn is_marked(&self, way: Way) -> bool
-        ensures { IsTrue result
-            ↔ IsSome (mark_by self.now.notes.now.marks self.now.location.number (seen_way way)) }
-    {
-        match way {
-            Way::To(next) => Mark::on_edge(self.notes.marks(), self.location, next).is_some(),
-            Way::Early | Way::Late => false,
-        }
     }
 }

@@ -28,12 +28,12 @@ pub struct Onward {
     pub time: u32,
     /// The most until one of them ends, and 49 more.
     pub stop: u32,
-    /// One of them that takes the most word times until the next instruction is found.
+    /// One of them that ends last, so that none comes later to the next instruction.
     pub hop: Hop,
 }
 
 impl Onward {
-    /// The most of this and another, if there is one; where both take as long, the other's hop.
+    /// The most of this and another, if there is one; where both end at once, the other's hop.
     fn or_longer(self, other: Option<Onward>) -> Onward
         ensures time { self.time ≤ result.time }
         ensures stop { self.stop ≤ result.stop }
@@ -43,11 +43,11 @@ impl Onward {
         let Some(other) = other else {
             return self;
         };
-        let longer = if self.time > other.time { self } else { other };
+        let later = if self.stop > other.stop { self } else { other };
         Onward {
-            time: longer.time,
-            stop: self.stop.max(other.stop),
-            hop: longer.hop,
+            time: self.time.max(other.time),
+            stop: later.stop,
+            hop: later.hop,
         }
     }
 }
@@ -57,9 +57,9 @@ impl Onward {
 /// a location has few hops, and there are many slots.
 #[derive(Drop)]
 pub struct Raised {
-    /// The most word times until one of them without a mark ends, and 49 more; 0 of none.
+    /// The most word times until one of them ends that leads nowhere, and 49 more; 0 of none.
     pub stop: u32,
-    /// One of them without a mark that ends last.
+    /// One of those that ends last.
     pub last: Option<Hop>,
     /// The most until any of them ends, and 49 more; 0 of none.
     pub most: u32,
@@ -99,23 +99,24 @@ impl Raised {
         let angle = from.angle;
         let ended = longest(from.times, from.location, hop, angle);
         let stop = (ended + LONGEST_SEARCH - angle) as u32;
-        self.end(stop, hop, from.is_marked(hop.way));
-        if let Way::To(next) = hop.way {
-            let found = Seek::of(next).go(ended);
-            let time = (found - angle) as u32;
-            self.reach(Slot::of(next, found), Onward { time, stop, hop });
-        }
+        self.most = self.most.max(stop);
+        let Way::To(next) = hop.way else {
+            self.end(stop, hop);
+            return;
+        };
+        let found = Seek::of(next).go(ended);
+        let time = (found - angle) as u32;
+        self.reach(Slot::of(next, found), Onward { time, stop, hop });
     }
 
-    /// A hop, with a mark or without, ends so late with 49 word times more.
-    fn end(&mut self, stop: u32, hop: Hop, is_marked: bool)
-        ensures most { self.new.most ≡ max self.old.most stop }
+    /// A hop that leads nowhere ends so late with 49 word times more.
+    fn end(&mut self, stop: u32, hop: Hop)
+        ensures most { self.new.most ≡ self.old.most }
         ensures no_less { self.old.stop ≤ self.new.stop }
-        ensures unmarked { is_marked ≡ false → stop ≤ self.new.stop }
+        ensures told { stop ≤ self.new.stop }
         ensures onward { self.new.onward.items ≡ self.old.onward.items }
     {
-        self.most = self.most.max(stop);
-        if !is_marked && self.stop < stop {
+        if self.stop < stop {
             self.stop = stop;
             self.last = Some(hop);
         }

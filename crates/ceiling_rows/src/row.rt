@@ -22,9 +22,9 @@ pub struct Edge {
 /// What the hops of a location take at most, from when its instruction is found at one angle.
 #[derive(Drop)]
 pub struct Row {
-    /// The most word times until one of them without a mark ends, and 49 more; 0 of none.
+    /// The most word times until one of them ends that leads nowhere, and 49 more; 0 of none.
     pub stop: u32,
-    /// One of them without a mark that ends last.
+    /// One of those that ends last.
     pub last: Option<Hop>,
     /// The most until any of them ends, and 49 more; 0 of none.
     pub most: u32,

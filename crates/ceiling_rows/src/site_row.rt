@@ -8,7 +8,8 @@ ghost use Rattle.flow_graph.specs.Flow.{deck_of, executed_in, nodes_of, notes_of
 ghost use Rattle.flow_graph.specs.Hops.{Node};
 ghost use Rattle.flow_graph.specs.SettingOf.{setting};
 ghost use Rattle.ceiling_rows.specs.Rows.{AreRows};
-ghost use Rattle.ceiling_rows.specs.SiteRows.{AreSiteRows, HasAllOnward, HasOnward, IsMadeOf};
+ghost use Rattle.ceiling_rows.specs.SiteRows.{AreSiteRows, EndWithin, HasAllOnward};
+ghost use Rattle.ceiling_rows.specs.SiteRows.{HasOnward, IsMadeOf};
 ghost use Rattle.ceiling_rows.specs.Sites.{sites_in, AreSites};
 
 use crate::row::{Edge, Row};
@@ -39,12 +40,39 @@ pub struct SiteEdge {
 pub struct SiteRow {
     /// The location of the site's node.
     pub location: Location,
-    /// The most word times until one of them without a mark ends, and 49 more; 0 of none.
+    /// The most word times until one of them ends that leads nowhere, or along an edge without a
+    /// mark, and 49 more; 0 of none.
     pub stop: u32,
-    /// One of them without a mark that ends last.
+    /// One of those that ends last.
     pub last: Option<Hop>,
     /// Where they lead.
     pub edges: Vec<SiteEdge>,
+}
+
+impl SiteRow {
+    ghost use Rattle.std.specs.Prelude.{◌≤◌};
+
+    /// The row with these edges, of a site of a location with this row.
+    fn of(location: Location, row: &Row, edges: Vec<SiteEdge>) -> SiteRow
+        ensures own { row.now.stop ≤ result.stop }
+        ensures within { EndWithin result.stop result.edges.items }
+        ensures edges { result.edges.items ≡ edges.items }
+    {
+        let mut stop = row.stop;
+        let mut last = row.last;
+        for edge in &edges {
+            if edge.mark.is_none() && stop < edge.stop {
+                stop = edge.stop;
+                last = Some(edge.hop);
+            }
+        }
+        SiteRow {
+            location,
+            stop,
+            last,
+            edges,
+        }
+    }
 }
 
 /// The edge from a node that an edge of its location's row stands for; `None` where no step may go
@@ -110,12 +138,8 @@ fn site_row(
             edges: Vec::new(alloc),
         });
     };
-    Ok(SiteRow {
-        location,
-        stop: row.stop,
-        last: row.last,
-        edges: site_edges(alloc, flow, sites, site.node, &row.edges)?,
-    })
+    let edges = site_edges(alloc, flow, sites, site.node, &row.edges)?;
+    Ok(SiteRow::of(location, row, edges))
 }
 
 /// The rows of all sites, by those of the executed locations.

@@ -1,5 +1,5 @@
 -- Of site_row: the row of the location at its angle is the one that is there.
-use Rattle.std.proofs.Common.{◌≡◌, ℕ, ◌%◌, List, Some, sym, ap, ◌∙◌, subst}
+use Rattle.std.proofs.Common.{◌≡◌, ℕ, ◌%◌, List, Some, sym, ap, ◌∙◌, subst, arith}
 use Rattle.std.specs.Prelude.{length, slice_get}
 use Rattle.std.proofs.lemmas.Bool.{ltb-true}
 use Rattle.std.proofs.lemmas.Option.{same_Some, slice_get-get_or}
@@ -7,6 +7,7 @@ use Rattle.flow_graph.specs.Flow.{nodes_of, notes_of}
 use Rattle.flow_graph.specs.Hops.{Node}
 use Rattle.ceiling_rows.specs.declared.row.Edge.{Edge}
 use Rattle.ceiling_rows.specs.declared.row.Row.{Row}
+use Rattle.ceiling_rows.specs.declared.site_row.SiteEdge.{SiteEdge}
 use Rattle.ceiling_rows.specs.SiteRows.{HasAllOnward}
 use Rattle.ceiling_rows.specs.Sites.{sites_in}
 use Rattle.ceiling_rows.specs.Slot.{slot_of}
@@ -26,8 +27,11 @@ returns c from row at there =
     let both : Some (Some c.in-Some-Some.row) ≡ Some (Some row) = sym here ∙ ap (slice_get rows) number ∙ there in
     let same : c.in-Some-Some.row ≡ row =
     same_Some c.in-Some-Some.row row (same_Some (Some c.in-Some-Some.row) (Some row) both) in (
-      ap (λ (r : Row). r.stop) same,
-      subst (λ (edges : List Edge). HasAllOnward (notes_of c.args.flow.now) (nodes_of c.args.flow.now)
-          (sites_in c.args.sites.now) from edges c.in_ok-site_edges.field-0.items)
-          (c.deref.ensures.value ∙ ap (λ (r : Row). r.edges.items) same) (c.in_ok-site_edges.ensures from at),
+      omega (arith, ap (λ (r : Row). r.stop) same, c.of.ensures.own),
+      c.of.ensures.within,
+      subst (λ (edges : List SiteEdge). HasAllOnward (notes_of c.args.flow.now) (nodes_of c.args.flow.now)
+          (sites_in c.args.sites.now) from row.edges.items edges) (sym c.of.ensures.edges)
+          (subst (λ (edges : List Edge). HasAllOnward (notes_of c.args.flow.now) (nodes_of c.args.flow.now)
+          (sites_in c.args.sites.now) from edges c.in_ok-edges.edges.items)
+          (c.deref.ensures.value ∙ ap (λ (r : Row). r.edges.items) same) (c.in_ok-edges.ensures from at)),
     )

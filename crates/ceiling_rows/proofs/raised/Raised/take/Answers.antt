@@ -1,7 +1,7 @@
 -- Of Raised::take: where the hop goes nowhere, its end alone is looked at; else it reaches where it
 -- goes on.
-use Rattle.std.proofs.Common.{◌≡◌, ℕ, ◌%◌, Bool, true, false, List, Option, None, refl, ap, sym, ◌∙◌, subst, arith}
-use Rattle.std.specs.Prelude.{slice_get, IsSome, IsTrue}
+use Rattle.std.proofs.Common.{◌≡◌, ℕ, ◌%◌, List, Option, refl, ap, sym, ◌∙◌, subst, arith}
+use Rattle.std.specs.Prelude.{slice_get}
 use Rattle.base_words.specs.declared.location.Location.{Location}
 use Rattle.machine_steps.specs.declared.ways.Way as coded
 use Rattle.machine_steps.specs.declared.ways.Way.TheVariants as way
@@ -10,7 +10,6 @@ use Rattle.machine_steps.specs.Timing.{found}
 use Rattle.machine_steps.specs.Ways.{to}
 use Rattle.machine_steps.specs.WaysLeft.{seen_way}
 use Rattle.ceiling_rows.specs.declared.raised.Onward.{Onward}
-use Rattle.ceiling_rows.specs.Marked.{mark_by}
 use Rattle.ceiling_rows.specs.Raised.{latest, IsReachedBy}
 use Rattle.ceiling_rows.specs.Slot.{slot_of}
 use Rattle.ceiling_rows.proofs.raised.Raised.take.Goals as goal
@@ -19,11 +18,6 @@ no_next : (by : coded.Way) (next : ℕ) → ((x : Location) → by ≡ way.To x 
 no_next (way.To x) next none is = none x refl
 no_next way.Early next none is = cc
 no_next way.Late next none is = cc
-
--- where there is no mark, none was told
-unmarked : (told : Bool) (mark : Option ℕ) → (IsTrue told → IsSome mark) → mark ≡ None → told ≡ false
-unmarked false mark some none = refl
-unmarked true mark some none = sym (subst (λ (one : Option ℕ). IsSome one) none (some refl))
 
 pub returns-in_default : goal.returns-in_default
 returns-in_default c =
@@ -34,14 +28,7 @@ returns-in_default c =
     record {
       taken = record {
         within = omega (arith, ended, later, c.end.ensures.most);
-        ends = λ none. omega (
-          arith,
-          ended,
-          later,
-          c.end.ensures.unmarked
-              (unmarked c.is_marked.result (mark_by from.notes.now.marks from.location.number own) c.is_marked.ensures.0
-              none),
-        );
+        ends = λ nowhere. omega (arith, ended, later, c.end.ensures.told);
         goes_on = λ next on. absurd (no_next c.args.hop.way next c.in_default.not-To on);
       };
       grown = record {
@@ -57,8 +44,8 @@ returns-in_default c =
       no_more = λ most low each. omega (arith, c.end.ensures.most, low, each, ended, later);
     }
 
-pub returns-in-To-clause-taken : goal.returns-in-To-clause-taken
-returns-in-To-clause-taken c =
+pub returns-clause-taken : goal.returns-clause-taken
+returns-clause-taken c =
     let from = c.args.from.now in
     let own = seen_way c.args.hop.way in
     let place = c.in-To.next.number in
@@ -73,21 +60,13 @@ returns-in-To-clause-taken c =
     (latest from c.args.hop.instruction own) = (
       there.0,
       ap (λ (clock : ℕ). slice_get items (slot_of place (clock % 50))) (sym arrives)
-          ∙ ap (slice_get items) (sym c.of-in-To.ensures) ∙ there.1,
+          ∙ ap (slice_get items) (sym c.of-2.ensures) ∙ there.1,
       omega (arith, arrives, there.2, c.go-found.ensures.later, later),
       omega (arith, ended, there.3, later),
     ) in
     record {
-      within = omega (arith, ended, later, c.end.ensures.most, c.reach.ensures.most);
-      ends = λ none. omega (
-        arith,
-        ended,
-        later,
-        c.end.ensures.unmarked
-            (unmarked c.is_marked.result (mark_by from.notes.now.marks from.location.number own) c.is_marked.ensures.0
-            none),
-        c.reach.ensures.stop,
-      );
+      within = omega (arith, ended, later, c.reach.ensures.most);
+      ends = λ nowhere. absurd (nowhere place (sym (sym (ap seen_way c.in-To.is))));
       goes_on = λ next on.
           let both : to place ≡ to next = sym (ap seen_way c.in-To.is) ∙ on in
           let same : place ≡ next = cc in
@@ -96,10 +75,9 @@ returns-in-To-clause-taken c =
           (c.in-To.next.exists, reached);
     }
 
-pub returns-in-To-clause-grown : goal.returns-in-To-clause-grown
-returns-in-To-clause-grown c = record {
-  stop = omega (arith, c.end.ensures.no_less, c.reach.ensures.stop);
-  most = omega (arith, c.end.ensures.most, c.reach.ensures.most);
-  onward = λ slot hop there. c.reach.ensures.grown.onward slot hop
-      (ap (λ (all : List (Option Onward)). slice_get all slot) c.end.ensures.onward ∙ there);
+pub returns-clause-grown : goal.returns-clause-grown
+returns-clause-grown c = record {
+  stop = omega (arith, c.reach.ensures.stop);
+  most = omega (arith, c.max-self.ensures, c.reach.ensures.most);
+  onward = λ slot hop there. c.reach.ensures.grown.onward slot hop there;
 }
