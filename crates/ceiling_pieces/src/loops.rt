@@ -2,7 +2,7 @@
 
 use crate::free::{Last, Step};
 use crate::mixed::{Parts, Standing};
-use crate::passings::{Passing, Passings};
+use crate::passings::{Landing, Passing, Passings};
 use crate::sources::Sources;
 use crate::table::{Cell, Table, longer};
 use crate::walks::{Walk, Walks};
@@ -21,6 +21,8 @@ pub struct Loops<'a> {
     /// How many sources there are, and with them the end.
     pub(super) size: usize,
     loops: Vec<Option<Table>>,
+    /// Of each mark its edges that lead to sources.
+    pub(super) landings: Vec<Vec<Landing>>,
     /// Of each mark in whose loop another one stands that isn't inside of it: its parts.
     pub(super) parts: Vec<Option<Parts>>,
 }
@@ -34,9 +36,11 @@ impl<'a> Loops<'a> {
         sources: &'a Sources,
     ) -> Result<Loops<'a>, AllocError> {
         let mut loops = Vec::new(alloc);
+        let mut landings = Vec::new(alloc);
         let mut parts = Vec::new(alloc);
-        for _ in marks {
+        for mark in 0..marks.len() {
             loops.push(None)?;
+            landings.push(passings.landings(alloc, mark, sources)?)?;
             parts.push(None)?;
         }
         Ok(Loops {
@@ -47,6 +51,7 @@ impl<'a> Loops<'a> {
             order: passings.order(alloc, marks.len())?,
             size: sources.free.len().saturating_add(1),
             loops,
+            landings,
             parts,
         })
     }

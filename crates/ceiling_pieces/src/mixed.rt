@@ -1,7 +1,7 @@
 //! Loops that stand in the loop of a mark which they aren't inside of: among what is inside of it.
 
 use crate::loops::Loops;
-use crate::passings::Passing;
+use crate::passings::Landing;
 use crate::table::Table;
 use crate::walks::Walks;
 use std::alloc::AllocError;
@@ -87,35 +87,32 @@ impl Loops<'_> {
         if other == mark {
             return false;
         }
-        for passing in &self.passings.list {
-            if passing.mark == other && self.stands_in(*passing, mark) {
-                return true;
-            }
-        }
-        false
-    }
-
-    /// Whether the loop of this pass stands in that of a mark: ways free of marks lead to it from
-    /// behind a pass of the mark, and from behind it to such a pass.
-    fn stands_in(&self, passing: Passing, mark: usize) -> bool {
-        for outer in &self.passings.list {
-            if outer.mark == mark
-                && self.leads(outer.onto, passing)
-                && self.leads(passing.onto, *outer)
-            {
-                return true;
-            }
-        }
-        false
-    }
-
-    /// Whether a way free of marks leads from this source to where a pass begins.
-    fn leads(&self, source: usize, passing: Passing) -> bool {
-        let Some(index) = self.sources.index_of(source) else {
+        let (Some(inner), Some(outer)) = (self.landings.get(other), self.landings.get(mark)) else {
             return false;
         };
-        match self.sources.free.get(index) {
-            Some(free) => free.at(passing.from).is_some(),
+        for landing in inner {
+            if self.stands_in(*landing, outer) {
+                return true;
+            }
+        }
+        false
+    }
+
+    /// Whether the loop of this pass stands in that of these: ways free of marks lead to it from
+    /// behind one of them, and from behind it to that one.
+    fn stands_in(&self, inner: Landing, outer: &[Landing]) -> bool {
+        for landing in outer {
+            if self.leads(landing.source, inner.from) && self.leads(inner.source, landing.from) {
+                return true;
+            }
+        }
+        false
+    }
+
+    /// Whether a way free of marks leads from behind a pass to a site.
+    fn leads(&self, source: usize, site: usize) -> bool {
+        match self.sources.free.get(source) {
+            Some(free) => free.at(site).is_some(),
             None => false,
         }
     }

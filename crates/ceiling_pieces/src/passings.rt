@@ -1,5 +1,6 @@
 //! The edges with marks, in the order of the flow.
 
+use crate::sources::Sources;
 use ceiling_rows::SiteRow;
 use std::alloc::{AllocError, Global};
 
@@ -18,6 +19,15 @@ pub struct Passing {
     pub time: u64,
     /// The most until its hop ends, and 49 more.
     pub stop: u64,
+}
+
+/// An edge with a mark that leads to a source.
+#[derive(Clone, Copy)]
+pub struct Landing {
+    /// Where it begins.
+    pub from: usize,
+    /// The index of the source.
+    pub source: usize,
 }
 
 /// The edges with marks, in an order of where they begin.
@@ -54,6 +64,25 @@ impl Passings {
             }
         }
         Ok(())
+    }
+
+    /// Those of a mark that lead to sources.
+    pub fn landings(
+        &self,
+        alloc: Global,
+        mark: usize,
+        sources: &Sources,
+    ) -> Result<Vec<Landing>, AllocError> {
+        let mut landings = Vec::new(alloc);
+        for passing in &self.list {
+            if passing.mark == mark
+                && let Some(source) = sources.index_of(passing.onto)
+            {
+                let from = passing.from;
+                landings.push(Landing { from, source })?;
+            }
+        }
+        Ok(landings)
     }
 
     /// The marks, those first that stand first on an edge.
