@@ -12,6 +12,8 @@ The decks are made here, from seeds:
 - the 22 programs of ceiling_programs.py;
 - COUNT programs of ceiling_structured.py that have a bound (300, unless it is given), half as many
   that are past its limit, and half as many wild ones, with a bound;
+- COUNT programs of ceiling_calls.py, with calls, whose worst time is that of the plain model: it
+  stands in for the bound, and there is no linear program of them;
 - a third of COUNT of each kind of ceiling_beside.py, whose marks stand beside one another on one
   cycle, with a bound, and as many past its limit;
 - a third of COUNT of odd decks of ceiling_random.py: the first that have a bound. They are of mixed
@@ -41,6 +43,7 @@ import ceiling_decks
 import ceiling_programs
 import linear_programs
 import model
+from ceiling_calls import CallDeck
 from ceiling_random import RandomDeck
 from ceiling_structured import StructuredDeck
 from program import built_program
@@ -79,8 +82,14 @@ class Bench:
             sys.exit("%s: %s%s" % (command, done.stderr, open(self.path("deck")).read()))
         return done.stdout.splitlines()
 
+    def walks(self):
+        """The walks of the deck that is put, as the plain model has them."""
+        return model.walks_of(self.path("deck"), self.times, self.path("notes"))
+
     def bound(self):
-        return int(self.lines("bound")[0].split()[1])
+        """The bound, or the worst time of notes with calls, which have none."""
+        walks = self.walks()
+        return walks.longest() if walks.calls else int(self.lines("bound")[0].split()[1])
 
     def has_bound(self):
         """Whether the deck is small enough for a bound."""
@@ -103,9 +112,9 @@ class Bench:
         return int(TOTAL.fullmatch(self.lines("ceiling", program)[-1])[1])
 
     def optima(self):
-        """The optimum of the whole run, and that by entries; None without glpsol."""
-        walks = model.walks_of(self.path("deck"), self.times, self.path("notes"))
-        return linear_programs.optima(walks, self.path("linear"))
+        """The optimum of the whole run, and that by entries; None without glpsol, or with calls."""
+        walks = self.walks()
+        return (None, None) if walks.calls else linear_programs.optima(walks, self.path("linear"))
 
 
 def is_equal(one, other):
@@ -222,6 +231,11 @@ def structured_decks(count, name, **kind):
         yield "%s deck %d" % (name, seed), *StructuredDeck(seed, **kind).written()
 
 
+def call_decks(count):
+    for seed in range(count):
+        yield "deck with calls %d" % seed, *CallDeck(seed).written()
+
+
 def beside_decks(count, kind, is_large=False):
     for seed in range(count):
         deck = ceiling_beside.BesideDeck(seed, kind, is_large)
@@ -304,6 +318,7 @@ def main():
             ("odd decks", odd, True),
             ("wild programs", structured_decks(half, "wild", is_wild=True), True),
             ("past the limit", structured_decks(half, "large", is_large=True), False),
+            ("programs with calls", call_decks(count), True),
             *beside_sets(count // 3),
         ]:
             wrong += Set(bench, name, decks, earlier).compare(with_bound)
